@@ -1,0 +1,99 @@
+-- Valid places: the test that a call makes and the fact place by place are the same, and an accepted snapshot gives valid places.
+-- Assumes nothing.
+use Prim.Native.Nat.{ℕ, zero, suc, _+_, _≤_, _<_}
+use mathlib.Core.Path.{_≡_, refl, sym, _∙_, ap}
+use mathlib.Core.Bool.{Bool, true, false, _&&_, and-false, false≢true}
+use mathlib.Core.List.{List, [], _∷_}
+use native.Mathlib.Numerals.{add-one}
+use native.Mathlib.Omega.{arith}
+use borrow.Author.Tests.{le-leb, lt-leb, leb-true, leb-false}
+use lib.Dec.{leb}
+use lib.ListN.{length, getD, set, drop, replicate, length-set, length-replicate, drop-of-length-le}
+use lib.Seq.{drop-cons}
+use Rattle.snapshot.specs.Snapshot.{within, Valid, refusalOf, pairsRefusal, placed, numbersIn, valuesIn, restored}
+use Rattle.snapshot.proofs.Pairs.{pair-accepted, accepted}
+
+-- ---- the test, place by place
+
+pub within-short : (t l : List ℕ) → (length t ≡ length l → ⊥) → within t l ≡ false
+unfolding within
+within-short [] [] h = absurd (h refl)
+within-short [] (v ∷ l) h = refl
+within-short (m ∷ t) [] h = refl
+within-short (m ∷ t) (v ∷ l) h = ap (λ b. leb v m && b) (within-short t l (λ e. h (ap suc e))) ∙ and-false (leb v m)
+
+module _ (t l : List ℕ) (i : ℕ) (h : i < length t) (h′ : i < length l) where
+  within-next : within (drop i t) (drop i l) ≡ (leb (getD l i 0) (getD t i 0) && within (drop (i + 1) t) (drop (i + 1) l))
+  unfolding within
+  within-next = rw (add-one i, drop-cons t i 0 h, drop-cons l i 0 h′)
+
+  pub within-more : {b : Bool} → getD l i 0 ≤ getD t i 0 → within (drop i t) (drop i l) ≡ b → within (drop (i + 1) t) (drop (i + 1) l) ≡ b
+  within-more k e = sym (within-next ∙ simp (le-leb _ _ k)) ∙ e
+
+  pub within-over : {b : Bool} → getD t i 0 < getD l i 0 → within (drop i t) (drop i l) ≡ b → false ≡ b
+  within-over k e = sym (within-next ∙ simp (lt-leb _ _ k)) ∙ e
+
+pub within-end : (t l : List ℕ) (i : ℕ) {b : Bool} → length t ≡ length l → length l ≤ i → within (drop i t) (drop i l) ≡ b → true ≡ b
+unfolding within
+within-end t l i same h e = rw (drop-of-length-le t {i = i} (omega arith), drop-of-length-le l {i = i} h) at e
+
+-- ---- the test and the fact
+
+both : (a b : Bool) → (a && b) ≡ true → (a ≡ true) × (b ≡ true)
+both true b e = (refl, e)
+both false b e = absurd (false≢true e)
+
+pub valid : (t l : List ℕ) → within t l ≡ true → Valid t l
+unfolding within
+valid [] [] e = record { long = refl; small = λ i. omega arith }
+valid [] (v ∷ l) e = absurd (false≢true e)
+valid (m ∷ t) [] e = absurd (false≢true e)
+valid (m ∷ t) (v ∷ l) e =
+    let b = both (leb v m) (within t l) e in
+    let r = valid t l (b .1) in
+    let first : v ≤ m = leb-true v m (b .0) in
+    let all : (i : ℕ) → getD (v ∷ l) i 0 ≤ getD (m ∷ t) i 0 = elim [ zero ↦ first | suc i ↦ r .small i ] in
+    record { long = ap suc (r .long); small = all }
+
+pub valid-within : (t l : List ℕ) → Valid t l → within t l ≡ true
+unfolding within
+valid-within [] [] v = refl
+valid-within [] (x ∷ l) v = absurd (omega (arith, v .long))
+valid-within (m ∷ t) [] v = absurd (omega (arith, v .long))
+valid-within (m ∷ t) (x ∷ l) v =
+    let rest = valid-within t l (record { long = omega (arith, v .long); small = λ i. v .small (suc i) }) in
+    simp (le-leb x m (v .small 0), rest)
+
+-- ---- an accepted snapshot's places
+
+-- what holds of each element at its index still does after a store
+pub set-all : (P : ℕ → ℕ → Type 0) (l : List ℕ) (i v : ℕ) → P i v → ((j : ℕ) → P j (getD l j 0)) → (j : ℕ) → P j (getD (set l i v) j 0)
+set-all P [] i v h k j = k j
+set-all P (x ∷ l) zero v h k zero = h
+set-all P (x ∷ l) zero v h k (suc j) = k (suc j)
+set-all P (x ∷ l) (suc i) v h k zero = k 0
+set-all P (x ∷ l) (suc i) v h k (suc j) = set-all (λ n. P (suc n)) l i v h (λ n. k (suc n)) j
+
+placed-small : (t : List ℕ) (least : ℕ) (ps vs l : List ℕ) → pairsRefusal t least ps vs ≡ 0 → ((i : ℕ) → getD l i 0 ≤ getD t i 0) → (i : ℕ) → getD (placed ps vs l) i 0 ≤ getD t i 0
+placed-small t least [] vs l e b = b
+placed-small t least (p ∷ ps) [] l e b = b
+placed-small t least (p ∷ ps) (v ∷ vs) l e b =
+    let q = pair-accepted t least p v (pairsRefusal t (p + 1) ps vs) e in
+    placed-small t (p + 1) ps vs (set l p v) (q .after) (set-all (λ i x. x ≤ getD t i 0) l p v (q .small) b)
+
+placed-long : (ps vs l : List ℕ) → length (placed ps vs l) ≡ length l
+placed-long [] vs l = refl
+placed-long (p ∷ ps) [] l = refl
+placed-long (p ∷ ps) (v ∷ vs) l = placed-long ps vs (set l p v) ∙ length-set l p v
+
+pub zeros-small : (m n i : ℕ) → getD (replicate n 0) i 0 ≤ m
+zeros-small m zero i = omega arith
+zeros-small m (suc n) zero = omega arith
+zeros-small m (suc n) (suc i) = zeros-small m n i
+
+pub restored-valid : (chip : ℕ) (t s : List ℕ) → refusalOf chip t s ≡ 0 → Valid t (restored (length t) s)
+unfolding restored
+restored-valid chip t s e = record {
+  long = placed-long (numbersIn s) (valuesIn s) (replicate (length t) 0) ∙ length-replicate (length t) 0;
+  small = placed-small t 0 (numbersIn s) (valuesIn s) (replicate (length t) 0) (accepted chip t s e .pairs) (λ i. zeros-small (getD t i 0) (length t) i);
+}

@@ -1,0 +1,94 @@
+-- `encode` meets its contract.
+-- Assumes nothing.
+use Rattle.snapshot.proofs.Stores.{snapshot-long, snapshot-stored}
+use Rattle.snapshot.specs.Snapshot.{valuesOf}
+use mathlib.Core.List.{List}
+use lib.Seq.{sets}
+use Prim.Native.Nat.{ℕ, _+_, _*_}
+use denote.Ref.{now}
+use mathlib.Core.Path.{_≡_, _∙_, ap}
+use native.Mathlib.Omega.{arith}
+use lib.ListN.{length, length-set}
+use borrow.Author.Needs.{needs}
+use Rattle.snapshot.proofs.encode.Statement.{statement}
+use Rattle.snapshot.proofs.encode.Tie as tie
+
+count-requires : tie.Need-count-requires
+count-requires c κs = search needs
+
+slice-write-out : tie.Need-slice-write-out
+slice-write-out c = search needs
+
+cast-out : tie.Need-cast-out
+cast-out c = search needs
+
+slice-write-out-2 : tie.Need-slice-write-out-2
+slice-write-out-2 c =
+    simp length-set (omega arith)
+
+cast-out-2 : tie.Need-cast-out-2
+cast-out-2 c = search needs
+
+slice-write-out-3 : tie.Need-slice-write-out-3
+slice-write-out-3 c =
+    simp length-set (omega arith)
+
+put-numbers-requires : tie.Need-put-numbers-requires
+put-numbers-requires c κs =
+    (omega arith, simp length-set (omega arith))
+
+mul-put-values : tie.Need-mul-put-values
+mul-put-values c = search needs
+
+add-put-values : tie.Need-add-put-values
+add-put-values c = search needs
+
+put-values-requires : tie.Need-put-values-requires
+put-values-requires c κs =
+    let put-numbers = c .before .before .before .put-numbers in
+    omega (arith, simp length-set at (put-numbers .kept .1 .0))
+
+mul-result : tie.Need-mul-result
+mul-result c = search needs
+
+add-result : tie.Need-add-result
+add-result c = search needs
+
+same-length : tie.Need-same-length
+same-length c =
+    let put-numbers = c .before .before .before .before .before .before .put-numbers in
+    let put-values = c .before .before .put-values in
+    omega (arith, simp length-set at (put-numbers .kept .1 .0), put-values .kept .1 .0)
+
+returns : tie.Need-returns
+returns c =
+    let args = c .before .before .before .before .before .before .before .before .before .before .before .args in
+    let pre = c .before .before .before .before .before .before .before .before .before .before .before .pre in
+    let count = c .before .before .before .before .before .before .before .before .count in
+    let put-numbers = c .before .before .before .before .before .before .put-numbers in
+    let put-values = c .before .before .put-values in
+    let l = now (args .places) in
+    let n : count .result ≡ length (valuesOf l) = count .ensures .0 in (
+      omega (arith, snapshot-long (args .chip) l, n),
+      put-values .ensures ∙ ap (λ (o : List ℕ). sets o (3 + 2 * count .result) (valuesOf l)) (put-numbers .ensures)
+          ∙ snapshot-stored (now (args .out)) l (args .chip) (count .result) (omega (arith, pre)) n,
+    )
+
+pub encode-spec : {M : Type 1} → statement M
+encode-spec =
+    tie.close
+    (tie.spec
+    count-requires
+    slice-write-out
+    cast-out
+    slice-write-out-2
+    cast-out-2
+    slice-write-out-3
+    put-numbers-requires
+    mul-put-values
+    add-put-values
+    put-values-requires
+    mul-result
+    add-result
+    same-length
+    returns)

@@ -1,0 +1,196 @@
+// Snapshots: the places of a chip that aren't 0, as bytes, and back.
+ghost use mathlib.Core.Path.{_≡_};
+ghost use Prim.Native.Nat.{_+_, _*_, _<_, _≤_};
+ghost use lib.ListN.{length, replicate};
+ghost use lib.Seq.{sets};
+ghost use Rattle.snapshot.specs.Snapshot.{within as fits, numbersFrom, valuesOf, twoBytes, snapshotOf, over, wordAt, wordsOf, pairsRefusal, placed, refusalOf, Decoded};
+
+// As many places as the table has, each at most its largest value.
+pub fn within(largest: &[u8], places: &[u8]) -> bool
+    ensures { λ r. ⌜ r ≡ fits (now (largest .entry)) (now (places .entry)) ⌝ }
+{
+    if largest.len() != places.len() {
+        return false;
+    }
+    let mut i = 0;
+    while i < places.len() {
+        if largest[i] < places[i] {
+            return false;
+        }
+        i += 1;
+    }
+    true
+}
+
+// How many places aren't 0.
+fn count(places: &[u8]) -> usize
+    ensures { λ r. ⌜ (r ≡ length (valuesOf (now (places .entry)))) × (r ≤ length (now (places .entry))) ⌝ }
+{
+    let mut n: usize = 0;
+    let mut i = 0;
+    while i < places.len() {
+        if places[i] == 0 {
+            i += 1;
+            continue;
+        }
+        n += 1;
+        i += 1;
+    }
+    n
+}
+
+// The numbers of the places that aren't 0, two bytes each, into out from at on.
+fn put_numbers(places: &[u8], out: &mut [u8], at: usize)
+    requires { ⌜ (length (now places) ≤ 65535) × (at + 2 * length (now places) ≤ length (now out)) ⌝ }
+    ensures { λ r. ⌜ now (out .exit) ≡ sets (now (out .entry)) at (twoBytes (numbersFrom 0 (now (places .entry)))) ⌝ }
+{
+    let mut i = 0;
+    let mut k = at;
+    while i < places.len() {
+        if places[i] == 0 {
+            i += 1;
+            continue;
+        }
+        out[k] = (i % 256) as u8;
+        out[k + 1] = (i / 256 % 256) as u8;
+        k += 2;
+        i += 1;
+    }
+}
+
+// The values that aren't 0, into out from at on.
+fn put_values(places: &[u8], out: &mut [u8], at: usize)
+    requires { ⌜ at + length (now places) ≤ length (now out) ⌝ }
+    ensures { λ r. ⌜ now (out .exit) ≡ sets (now (out .entry)) at (valuesOf (now (places .entry))) ⌝ }
+{
+    let mut i = 0;
+    let mut k = at;
+    while i < places.len() {
+        if places[i] == 0 {
+            i += 1;
+            continue;
+        }
+        out[k] = places[i];
+        k += 1;
+        i += 1;
+    }
+}
+
+// The snapshot at the start of out; its length. For our crates: the caller has made sure of the room.
+pub fn encode(chip: u8, places: &[u8], out: &mut [u8]) -> usize
+    requires { ⌜ (length (now places) ≤ 65535) × (3 + 3 * length (now places) ≤ length (now out)) ⌝ }
+    ensures { λ r. ⌜ (r ≡ length (snapshotOf chip (now (places .entry)))) × (now (out .exit) ≡ over (snapshotOf chip (now (places .entry))) (now (out .entry))) ⌝ }
+{
+    let n = count(places);
+    out[0] = chip;
+    out[1] = (n % 256) as u8;
+    out[2] = (n / 256 % 256) as u8;
+    put_numbers(places, out, 3);
+    put_values(places, out, 3 + 2 * n);
+    3 + 3 * n
+}
+
+fn wide(x: u8) -> usize
+    ensures { λ r. ⌜ (r ≡ x) × (r < 256) ⌝ }
+{
+    x as usize
+}
+
+// The number of the two bytes at i.
+fn word(s: &[u8], i: usize) -> usize
+    requires { ⌜ i + 1 < length (now s) ⌝ }
+    ensures { λ r. ⌜ (r ≡ wordAt (now (s .entry)) i) × (r < 65536) ⌝ }
+{
+    wide(s[i]) + 256 * wide(s[i + 1])
+}
+
+// 24 or 25 for the first pair that has it, or 0.
+fn check_pairs(largest: &[u8], numbers: &[u8], values: &[u8]) -> u8
+    requires { ⌜ length (now numbers) ≡ 2 * length (now values) ⌝ }
+    ensures { λ r. ⌜ r ≡ pairsRefusal (now (largest .entry)) 0 (wordsOf (now (numbers .entry))) (now (values .entry)) ⌝ }
+{
+    let mut least: usize = 0;
+    let mut j = 0;
+    while j < values.len() {
+        let place = word(numbers, 2 * j);
+        let value = values[j];
+        if place < least {
+            return 24;
+        }
+        if largest.len() <= place {
+            return 24;
+        }
+        if value == 0 {
+            return 25;
+        }
+        if largest[place] < value {
+            return 25;
+        }
+        least = place + 1;
+        j += 1;
+    }
+    0
+}
+
+// The refusal of a snapshot, 20 to 25, or 0. A chip that has a check of its own makes it after this one.
+pub fn check(chip: u8, largest: &[u8], s: &[u8]) -> u8
+    ensures { λ r. ⌜ r ≡ refusalOf chip (now (largest .entry)) (now (s .entry)) ⌝ }
+{
+    if s.len() < 3 {
+        return 20;
+    }
+    if s[0] != chip {
+        return 21;
+    }
+    let n = word(s, 1);
+    if largest.len() < n {
+        return 22;
+    }
+    if s.len() != 3 + 3 * n {
+        return 23;
+    }
+    let mid = 3 + 2 * n;
+    check_pairs(largest, &s[3..mid], &s[mid..])
+}
+
+fn clear(places: &mut [u8])
+    ensures { λ r. ⌜ now (places .exit) ≡ replicate (length (now (places .entry))) 0 ⌝ }
+{
+    let mut i = 0;
+    while i < places.len() {
+        places[i] = 0;
+        i += 1;
+    }
+}
+
+// Each value stored at its place.
+fn put_places(numbers: &[u8], values: &[u8], places: &mut [u8])
+    requires { ⌜ length (now numbers) ≡ 2 * length (now values) ⌝ }
+    ensures { λ r. ⌜ now (places .exit) ≡ placed (wordsOf (now (numbers .entry))) (now (values .entry)) (now (places .entry)) ⌝ }
+{
+    let mut j = 0;
+    while j < values.len() {
+        let place = word(numbers, 2 * j);
+        if place < places.len() {
+            places[place] = values[j];
+            j += 1;
+            continue;
+        }
+        j += 1;
+    }
+}
+
+// The places that a snapshot gives, into places; or its refusal, with places unchanged.
+pub fn decode(chip: u8, largest: &[u8], s: &[u8], places: &mut [u8]) -> u8
+    ensures { λ r. ⌜ Decoded chip (now (largest .entry)) (now (s .entry)) (now (places .entry)) r (now (places .exit)) ⌝ }
+{
+    let r = check(chip, largest, s);
+    if r != 0 {
+        return r;
+    }
+    let n = word(s, 1);
+    let mid = 3 + 2 * n;
+    clear(places);
+    put_places(&s[3..mid], &s[mid..], places);
+    0
+}

@@ -7,12 +7,16 @@ use native.Mathlib.Nat.{mod-eq-of-lt, add-zero}
 use native.Mathlib.Omega.{arith}
 use borrow.Author.Tests.{ltb-true}
 use lib.Dec.{ltb}
-use Rattle.counters.specs.Counters.{nextAddress, addressAfter, nextPosition}
+use Rattle.counters.specs.Counters.{nextAddress, previousAddress, addressAfter, nextPosition}
 
 -- k steps from a give (a + k) mod 256
 pub address-after : (k a : ℕ) → a < 256 → addressAfter k a ≡ (a + k) % 256
 address-after zero a h = sym (ap (λ n. n % 256) (add-zero a) ∙ mod-eq-of-lt h)
 address-after (suc k) a h = let e = address-after k a h in omega arith
+
+-- the address before the next one is this one
+pub address-back : (a : ℕ) → a < 256 → previousAddress (nextAddress a) ≡ a
+address-back a h = omega arith
 
 pub address-small : (a : ℕ) → nextAddress a ≤ 255
 address-small a = omega arith

@@ -8,6 +8,10 @@ use lib.Dec.{ltb}
 abbrev pub nextAddress : ℕ → ℕ
 nextAddress a = (a + 1) % 256
 
+-- the address before; before 00h it is FFh
+abbrev pub previousAddress : ℕ → ℕ
+previousAddress a = (a + 255) % 256
+
 -- the address after k steps
 abbrev pub addressAfter : ℕ → ℕ → ℕ
 addressAfter zero a = a

@@ -1,6 +1,6 @@
 // The two counters of a palette chip, each a type of its own, so that neither serves as the other.
 ghost use mathlib.Core.Path.{_≡_};
-ghost use Rattle.counters.specs.Counters.{nextAddress, nextPosition};
+ghost use Rattle.counters.specs.Counters.{nextAddress, previousAddress, nextPosition};
 
 // The address register, ADDR0-7.
 pub struct Address(pub u8);
@@ -14,6 +14,13 @@ impl Address {
         ensures { λ r. ⌜ r .0 ≡ nextAddress (self .0) ⌝ }
     {
         Address(std::num::wrapping_add_u8(self.0, 1))
+    }
+
+    // Before 00h comes FFh.
+    pub fn previous(self) -> Address
+        ensures { λ r. ⌜ r .0 ≡ previousAddress (self .0) ⌝ }
+    {
+        Address(std::num::wrapping_add_u8(self.0, 255))
     }
 }
 

@@ -10,6 +10,7 @@ use borrow.Author.Tests.{ltb-false, leb-false, eqb-false, eqb-true}
 use lib.Dec.{eqb, ltb, leb}
 use lib.ListN.{length, getD, set, take, drop, drop-of-length-le, length-drop}
 use lib.Seq.{drop-cons, take-all}
+use Rattle.laws.proofs.Tests.{passed, needed}
 use Rattle.snapshot.specs.Snapshot.{wordAt, wordsOf, pairsRefusal, pairRefusal, placed, countOf, numbersIn, valuesIn, refusalOf}
 
 words-more : (l : List ℕ) (j : ℕ) → 2 * j + 1 < length l → wordsOf (drop (2 * j) l) ≡ wordAt l (2 * j) ∷ wordsOf (drop (2 * (j + 1)) l)
@@ -47,16 +48,6 @@ placed-end ps vs l j h e = sym (placed-none ps l) ∙ rw (drop-of-length-le vs h
 pub part-rest : (s : List ℕ) (k : ℕ) → take (length s - k) (drop k s) ≡ drop k s
 part-rest s k = take-all (length s - k) (drop k s) (omega (arith, length-drop k s))
 
--- ---- a chain of tests that comes to 0
-
-passed : (b : Bool) (n y : ℕ) → (n ≡ 0 → ⊥) → cond b n y ≡ 0 → (b ≡ false) × (y ≡ 0)
-passed true n y h e = absurd (h e)
-passed false n y h e = (refl, e)
-
-held : (b : Bool) (x n : ℕ) → (n ≡ 0 → ⊥) → cond b x n ≡ 0 → (b ≡ true) × (x ≡ 0)
-held true x n h e = (refl, e)
-held false x n h e = absurd (h e)
-
 -- what an accepted pair says
 pub record PairAccepted (t : List ℕ) (least p v later : ℕ) : Type 0 where
   pub above : least ≤ p
@@ -91,9 +82,9 @@ pub accepted : (chip : ℕ) (t s : List ℕ) → refusalOf chip t s ≡ 0 → Ac
 unfolding refusalOf
 accepted chip t s e =
     let a = passed (ltb (length s) 3) 20 _ (eqb-false 20 0 refl) e in
-    let b = held (eqb (getD s 0 0) chip) _ 21 (eqb-false 21 0 refl) (a .1) in
+    let b = needed (eqb (getD s 0 0) chip) _ 21 (eqb-false 21 0 refl) (a .1) in
     let d = passed (ltb (length t) (countOf s)) 22 _ (eqb-false 22 0 refl) (b .1) in
-    let f = held (eqb (length s) (3 + 3 * countOf s)) _ 23 (eqb-false 23 0 refl) (d .1) in
+    let f = needed (eqb (length s) (3 + 3 * countOf s)) _ 23 (eqb-false 23 0 refl) (d .1) in
     record {
       header = ltb-false _ _ (a .0);
       named = eqb-true _ _ (b .0);

@@ -10,6 +10,8 @@ use borrow.Author.Tests.{le-leb, lt-leb, leb-true, leb-false}
 use lib.Dec.{leb}
 use lib.ListN.{length, getD, set, drop, replicate, length-set, length-replicate, drop-of-length-le}
 use lib.Seq.{drop-cons}
+use Rattle.laws.proofs.Tests.{both}
+use Rattle.laws.proofs.Lists.{set-all, zeros-small}
 use Rattle.snapshot.specs.Snapshot.{within, Valid, refusalOf, pairsRefusal, placed, numbersIn, valuesIn, restored}
 use Rattle.snapshot.proofs.Pairs.{pair-accepted, accepted}
 
@@ -39,10 +41,6 @@ within-end t l i same h e = rw (drop-of-length-le t {i = i} (omega arith), drop-
 
 -- ---- the test and the fact
 
-both : (a b : Bool) → (a && b) ≡ true → (a ≡ true) × (b ≡ true)
-both true b e = (refl, e)
-both false b e = absurd (false≢true e)
-
 pub valid : (t l : List ℕ) → within t l ≡ true → Valid t l
 unfolding within
 valid [] [] e = record { long = refl; small = λ i. omega arith }
@@ -66,14 +64,6 @@ valid-within (m ∷ t) (x ∷ l) v =
 
 -- ---- an accepted snapshot's places
 
--- what holds of each element at its index still does after a store
-pub set-all : (P : ℕ → ℕ → Type 0) (l : List ℕ) (i v : ℕ) → P i v → ((j : ℕ) → P j (getD l j 0)) → (j : ℕ) → P j (getD (set l i v) j 0)
-set-all P [] i v h k j = k j
-set-all P (x ∷ l) zero v h k zero = h
-set-all P (x ∷ l) zero v h k (suc j) = k (suc j)
-set-all P (x ∷ l) (suc i) v h k zero = k 0
-set-all P (x ∷ l) (suc i) v h k (suc j) = set-all (λ n. P (suc n)) l i v h (λ n. k (suc n)) j
-
 placed-small : (t : List ℕ) (least : ℕ) (ps vs l : List ℕ) → pairsRefusal t least ps vs ≡ 0 → ((i : ℕ) → getD l i 0 ≤ getD t i 0) → (i : ℕ) → getD (placed ps vs l) i 0 ≤ getD t i 0
 placed-small t least [] vs l e b = b
 placed-small t least (p ∷ ps) [] l e b = b
@@ -85,11 +75,6 @@ placed-long : (ps vs l : List ℕ) → length (placed ps vs l) ≡ length l
 placed-long [] vs l = refl
 placed-long (p ∷ ps) [] l = refl
 placed-long (p ∷ ps) (v ∷ vs) l = placed-long ps vs (set l p v) ∙ length-set l p v
-
-pub zeros-small : (m n i : ℕ) → getD (replicate n 0) i 0 ≤ m
-zeros-small m zero i = omega arith
-zeros-small m (suc n) zero = omega arith
-zeros-small m (suc n) (suc i) = zeros-small m n i
 
 pub restored-valid : (chip : ℕ) (t s : List ℕ) → refusalOf chip t s ≡ 0 → Valid t (restored (length t) s)
 unfolding restored

@@ -109,6 +109,10 @@ placed (p ∷ ps) (v ∷ vs) l = placed ps vs (set l p v)
 unfoldable pub restored : ℕ → List ℕ → List ℕ
 restored n s = placed (numbersIn s) (valuesIn s) (replicate n 0)
 
+-- the state that an accepted snapshot gives, where `from` makes it of its places; `fresh` where the snapshot is refused
+unfoldable pub restoredBy : {S : Type 0} → ℕ → List ℕ → (List ℕ → S) → S → List ℕ → S
+restoredBy chip largest from fresh s = cond (eqb (refusalOf chip largest s) 0) (from (restored (length largest) s)) fresh
+
 -- what decoding returns, and what it leaves in the places that were lent
 pub record Decoded (chip : ℕ) (largest s places : List ℕ) (r : ℕ) (after : List ℕ) : Type 0 where
   pub refusal : r ≡ refusalOf chip largest s

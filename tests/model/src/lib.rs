@@ -1,0 +1,47 @@
+//! A second model of two video palette chips: the TLC34058 (chip 1) and the
+//! HD153129 (chip 2), with their snapshots, their logs, the run of a log, the
+//! painting accesses and the printing program's output.
+//!
+//! Written from document 01 (the scope paper, `01-scope.md`) and the data
+//! sheets of the TLC34058 (source document 000) and the HD153129 (source
+//! document 001), by a hand that had not seen the implementation. Nothing in
+//! here was shaped after other code; where a paper left two readings, the one
+//! taken is listed in `docs/MODEL-READINGS.md`.
+//!
+//! The names are the data sheets': ADDR0-7 and ADDRa,b, RREG and GREG, read
+//! mask, blink mask, command register CR0-CR7, overlay registers, RS0 and RS1,
+//! CLT, pixel mask register.
+//!
+//! What a comparison needs:
+//!
+//! - [`State::fresh`], [`State::from_places`], [`State::places`]
+//! - [`restore`], [`save`], [`save_into`]: snapshots and their refusals
+//! - [`event`]: one event called by itself on a state
+//! - [`run`]: a whole log on byte strings
+//! - [`painting_accesses`]: which events of a log paint
+//! - [`printed`]: what the printing program prints for any input
+
+#![forbid(unsafe_code)]
+#![warn(missing_docs)]
+
+mod chip1;
+mod chip2;
+mod event;
+mod log;
+mod painting;
+mod printing;
+mod refusal;
+mod run;
+mod snapshot;
+mod state;
+
+pub use chip1::Chip1;
+pub use chip2::Chip2;
+pub use event::{event, kind, Answer, Operand, ANSWER_BYTES};
+pub use log::{read_log, Event, Log, MOST_EVENTS};
+pub use painting::painting_accesses;
+pub use printing::printed;
+pub use refusal::Refusal;
+pub use run::run;
+pub use snapshot::{restore, save, save_into, Restored, Saved, END_BUFFER_BYTES};
+pub use state::State;

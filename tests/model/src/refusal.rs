@@ -1,0 +1,55 @@
+//! The refusal table of document 01.
+
+/// A refusal, with the number that document 01 gives it.
+#[derive(Clone, Copy, Debug, PartialEq, Eq)]
+#[repr(u8)]
+pub enum Refusal {
+    /// Selector over 3.
+    Selector = 1,
+    /// Chip 1: overlay access with address over 3, control access with address
+    /// outside 4 to 7.
+    Address = 2,
+    /// Chip 2: colour write in direction read, colour read in direction write.
+    Direction = 3,
+    /// Tick: OL bits 5 to 7 or undefined level bits set.
+    TickBits = 4,
+    /// Vertical period on chip 2.
+    Vertical = 5,
+    /// Log under 5 bytes.
+    LogShort = 10,
+    /// Log's chip not 1 or 2.
+    LogChip = 11,
+    /// Log's count over 3,000.
+    LogCount = 12,
+    /// Log's length not 5 + 9n.
+    LogLength = 13,
+    /// Event kind over 4.
+    Kind = 14,
+    /// Unused operand byte not 0.
+    UnusedByte = 15,
+    /// Snapshot under 3 bytes.
+    SnapshotShort = 20,
+    /// Snapshot's chip not 1 or 2.
+    SnapshotChip = 21,
+    /// Snapshot's count over the chip's places.
+    SnapshotCount = 22,
+    /// Snapshot's length not 3 + 3N.
+    SnapshotLength = 23,
+    /// Place outside the chip or not above the one before.
+    Place = 24,
+    /// Value 0 (in a snapshot) or above its place's largest.
+    Value = 25,
+    /// Snapshot and log for two chips.
+    TwoChips = 26,
+    /// Answer buffer under 18n bytes.
+    AnswerBuffer = 30,
+    /// End buffer under 2,370 bytes.
+    EndBuffer = 31,
+}
+
+impl Refusal {
+    /// The number in the column "Returned" of the refusal table.
+    pub fn number(self) -> u8 {
+        self as u8
+    }
+}

@@ -1,0 +1,252 @@
+//! Refusals of an event called by itself: 25, 14, 15, then 1 to 5, each alone
+//! and with others present. A refused event hands back the state it got.
+
+use crate::common::{largest, p1, p2, place_count, Bench};
+use model::{kind, Operand};
+
+/// The event must be refused with this number and change nothing.
+fn assert_refused(chip: &Bench, kind: u8, operand: Operand, number: u8) {
+    let (answer, next) = model::event(&chip.state, kind, &operand);
+    let mut expected = [0; 18];
+    expected[0] = number;
+    assert_eq!(answer, expected, "kind {kind} operand {operand:02x?}");
+    assert_eq!(next, chip.state, "kind {kind} operand {operand:02x?}");
+}
+
+fn assert_accepted(chip: &Bench, kind: u8, operand: Operand) {
+    let (answer, _) = model::event(&chip.state, kind, &operand);
+    assert_eq!(answer[0], 0, "kind {kind} operand {operand:02x?}");
+}
+
+/// An operand with one byte set.
+fn one_byte(index: usize, value: u8) -> Operand {
+    let mut operand = [0; 8];
+    operand[index] = value;
+    operand
+}
+
+#[test]
+fn refusal_1_selectors_over_3() {
+    for chip in [1, 2] {
+        let bench = Bench::fresh(chip);
+        for selector in 4..=255 {
+            assert_refused(&bench, kind::WRITE, [selector, 9, 0, 0, 0, 0, 0, 0], 1);
+            assert_refused(&bench, kind::READ, one_byte(0, selector), 1);
+        }
+        // 3 itself is a selector.
+        assert_accepted(&bench, kind::WRITE, [3, 9, 0, 0, 0, 0, 0, 0]);
+        assert_accepted(&bench, kind::READ, one_byte(0, 3));
+    }
+}
+
+#[test]
+fn refusal_1_comes_before_2_and_3() {
+    // Address 8 has neither overlay nor control register.
+    let chip1 = Bench::with_places(1, &[(p1::ADDRESS, 8)]);
+    for selector in [2, 3] {
+        assert_refused(&chip1, kind::READ, one_byte(0, selector), 2);
+        assert_refused(&chip1, kind::READ, one_byte(0, selector + 4), 1);
+        assert_refused(&chip1, kind::WRITE, one_byte(0, selector), 2);
+        assert_refused(&chip1, kind::WRITE, one_byte(0, selector + 4), 1);
+    }
+    let reading = Bench::with_places(2, &[(p2::DIRECTION, 1)]);
+    assert_refused(&reading, kind::WRITE, one_byte(0, 1), 3);
+    assert_refused(&reading, kind::WRITE, one_byte(0, 5), 1);
+    let writing = Bench::fresh(2);
+    assert_refused(&writing, kind::READ, one_byte(0, 1), 3);
+    assert_refused(&writing, kind::READ, one_byte(0, 5), 1);
+}
+
+#[test]
+fn refusal_2_overlay_and_control_addresses() {
+    for position in 0..=2 {
+        for address in [0, 3, 4, 7, 8, 0x83, 0xFF] {
+            let bench = Bench::with_places(1, &[(p1::ADDRESS, address), (p1::POSITION, position)]);
+            let overlay = matches!(address, 0 | 3);
+            let control = matches!(address, 4 | 7);
+            for (selector, reached) in [(3, overlay), (2, control)] {
+                let write = [selector, 0x55, 0, 0, 0, 0, 0, 0];
+                let read = one_byte(0, selector);
+                if reached {
+                    assert_accepted(&bench, kind::WRITE, write);
+                    assert_accepted(&bench, kind::READ, read);
+                } else {
+                    assert_refused(&bench, kind::WRITE, write, 2);
+                    assert_refused(&bench, kind::READ, read, 2);
+                }
+            }
+        }
+    }
+}
+
+#[test]
+fn refusal_3_direction() {
+    for position in 0..=2 {
+        for (direction, write, read) in [(0, 0, 3), (1, 3, 0)] {
+            let bench =
+                Bench::with_places(2, &[(p2::POSITION, position), (p2::DIRECTION, direction)]);
+            for (event_kind, number) in [(kind::WRITE, write), (kind::READ, read)] {
+                if number == 0 {
+                    assert_accepted(&bench, event_kind, one_byte(0, 1));
+                } else {
+                    assert_refused(&bench, event_kind, one_byte(0, 1), number);
+                }
+            }
+        }
+    }
+}
+
+#[test]
+fn refusal_3_ends_with_an_address_write_of_the_other_mode() {
+    let mut chip = Bench::fresh(2);
+    assert_eq!(chip.read(1), (3, 0));
+    assert_eq!(chip.write(3, 0), 0);
+    assert_eq!(chip.read(1), (0, 0));
+    assert_eq!(chip.write(1, 5), 3);
+    assert_eq!(chip.write(0, 0), 0);
+    assert_eq!(chip.write(1, 5), 0);
+}
+
+#[test]
+fn refusal_4_each_undefined_bit_of_a_tick() {
+    for command in [0x00, 0xC3] {
+        let chip1 = Bench::with_places(1, &[(p1::COMMAND, command)]);
+        for (byte, first_undefined) in [(5, 5), (6, 5), (7, 2)] {
+            for bit in 0..8 {
+                let operand = one_byte(byte, 1 << bit);
+                if bit < first_undefined {
+                    assert_accepted(&chip1, kind::TICK, operand);
+                } else {
+                    assert_refused(&chip1, kind::TICK, operand, 4);
+                }
+            }
+        }
+    }
+    let chip2 = Bench::fresh(2);
+    assert_accepted(&chip2, kind::TICK, one_byte(7, 1));
+    for bit in 1..8 {
+        assert_refused(&chip2, kind::TICK, one_byte(7, 1 << bit), 4);
+        assert_refused(&chip2, kind::TICK, one_byte(7, 1 | 1 << bit), 4);
+    }
+}
+
+#[test]
+fn refusal_5_vertical_period_on_chip_2() {
+    assert_refused(&Bench::fresh(2), kind::VERTICAL, [0; 8], 5);
+    assert_accepted(&Bench::fresh(1), kind::VERTICAL, [0; 8]);
+}
+
+#[test]
+fn refusal_14_kinds_over_4() {
+    for chip in [1, 2] {
+        let bench = Bench::fresh(chip);
+        for event_kind in 5..=255 {
+            assert_refused(&bench, event_kind, [0; 8], 14);
+            // 14 comes before 15.
+            assert_refused(&bench, event_kind, [9; 8], 14);
+        }
+        assert_accepted(&bench, kind::SAVE, [0; 8]);
+    }
+}
+
+/// The operand bytes that document 01 gives a meaning.
+fn used(chip: u8, event_kind: u8) -> &'static [usize] {
+    match (chip, event_kind) {
+        (_, kind::WRITE) => &[0, 1],
+        (_, kind::READ) => &[0],
+        (1, kind::TICK) => &[0, 1, 2, 3, 4, 5, 6, 7],
+        (2, kind::TICK) => &[0, 7],
+        _ => &[],
+    }
+}
+
+#[test]
+fn refusal_15_each_unused_operand_byte() {
+    let mut refused = 0;
+    for chip in [1, 2] {
+        for event_kind in 0..=4 {
+            for byte in 0..8 {
+                let operand = one_byte(byte, 1);
+                let (answer, _) = model::event(&Bench::fresh(chip).state, event_kind, &operand);
+                if used(chip, event_kind).contains(&byte) {
+                    assert_ne!(answer[0], 15);
+                } else {
+                    assert_refused(&Bench::fresh(chip), event_kind, operand, 15);
+                    refused += 1;
+                }
+            }
+        }
+    }
+    // 6 + 7 + 0 + 8 + 8 on chip 1, 6 more for chip 2's tick.
+    assert_eq!(refused, 29 + 35);
+}
+
+#[test]
+fn refusal_15_comes_before_1_to_5() {
+    // Each event alone gives the first number; with an unused byte set, 15.
+    let chip1 = Bench::with_places(1, &[(p1::ADDRESS, 8)]);
+    for (event_kind, operand, number) in [
+        (kind::WRITE, [4, 0, 0, 0, 0, 0, 0, 0], 1),
+        (kind::READ, [4, 0, 0, 0, 0, 0, 0, 0], 1),
+        (kind::WRITE, [2, 0, 0, 0, 0, 0, 0, 0], 2),
+        (kind::READ, [3, 0, 0, 0, 0, 0, 0, 0], 2),
+    ] {
+        assert_refused(&chip1, event_kind, operand, number);
+        let mut with_unused = operand;
+        with_unused[7] = 1;
+        assert_refused(&chip1, event_kind, with_unused, 15);
+    }
+    let chip2 = Bench::fresh(2);
+    for (event_kind, operand, number) in [
+        (kind::READ, [4, 0, 0, 0, 0, 0, 0, 0], 1),
+        (kind::READ, [1, 0, 0, 0, 0, 0, 0, 0], 3),
+        (kind::TICK, [0, 0, 0, 0, 0, 0, 0, 2], 4),
+        (kind::VERTICAL, [0, 0, 0, 0, 0, 0, 0, 0], 5),
+    ] {
+        assert_refused(&chip2, event_kind, operand, number);
+        let mut with_unused = operand;
+        with_unused[6] = 1;
+        assert_refused(&chip2, event_kind, with_unused, 15);
+    }
+}
+
+#[test]
+fn refusal_25_each_state_value_above_its_largest() {
+    let mut places_tried = 0;
+    for chip in [1, 2] {
+        for place in 0..place_count(chip) {
+            let most = largest(chip, place);
+            assert_accepted(
+                &Bench::with_places(chip, &[(place, most)]),
+                kind::SAVE,
+                [0; 8],
+            );
+            if most < 255 {
+                places_tried += 1;
+                for value in [most + 1, 255] {
+                    let bench = Bench::with_places(chip, &[(place, value)]);
+                    for event_kind in 0..=4 {
+                        assert_refused(&bench, event_kind, [0; 8], 25);
+                    }
+                }
+            }
+        }
+    }
+    // Position and blink count; 768 colours, position, direction, held bytes.
+    assert_eq!(places_tried, 2 + 772);
+}
+
+#[test]
+fn refusal_25_comes_before_14_15_and_1_to_5() {
+    let chip1 = Bench::with_places(1, &[(p1::ADDRESS, 8), (p1::BLINK_COUNT, 128)]);
+    let chip2 = Bench::with_places(2, &[(p2::DIRECTION, 2)]);
+    for bench in [&chip1, &chip2] {
+        assert_refused(bench, 5, [0; 8], 25);
+        assert_refused(bench, kind::SAVE, [1; 8], 25);
+        assert_refused(bench, kind::READ, one_byte(0, 9), 25);
+        assert_refused(bench, kind::TICK, one_byte(7, 128), 25);
+        assert_refused(bench, kind::VERTICAL, [0; 8], 25);
+    }
+    assert_refused(&chip1, kind::READ, one_byte(0, 2), 25);
+    assert_refused(&chip2, kind::READ, one_byte(0, 1), 25);
+}

@@ -1,0 +1,189 @@
+//! Which accesses paint, worked out by hand from document 01.
+
+use crate::common::{
+    is_access, log_bytes, p1, p2, read, save_event, snapshot_bytes, tick, vertical, write, Bench,
+    Random,
+};
+use model::{painting_accesses, save, Event, Refusal};
+
+/// The painting accesses of this log are exactly these indices.
+fn assert_painting(bench: &Bench, events: &[Event], indices: &[usize]) {
+    let snapshot = save(&bench.state).unwrap();
+    let log = log_bytes(bench.state.chip(), events);
+    assert_eq!(painting_accesses(&snapshot, &log), Ok(indices.to_vec()));
+}
+
+#[test]
+fn chip_1_colour_writes_paint_at_position_2() {
+    let triple = [write(1, 1), write(1, 2), write(1, 3)];
+    assert_painting(&Bench::fresh(1), &triple, &[2]);
+    // A start snapshot in the middle of a triple.
+    let middle = Bench::with_places(1, &[(p1::POSITION, 1)]);
+    assert_painting(&middle, &triple, &[1]);
+    let blue = Bench::with_places(1, &[(p1::POSITION, 2)]);
+    assert_painting(&blue, &triple, &[0]);
+    // Reads move the position but don't paint.
+    assert_painting(&Bench::fresh(1), &[read(1), read(1), write(1, 7)], &[2]);
+    assert_painting(&Bench::fresh(1), &[write(1, 7), write(1, 7), read(1)], &[]);
+    // An address read starts the triple again.
+    let interrupted = [
+        write(1, 1),
+        write(1, 2),
+        read(0),
+        write(1, 3),
+        write(1, 4),
+        write(1, 5),
+    ];
+    assert_painting(&Bench::fresh(1), &interrupted, &[5]);
+}
+
+#[test]
+fn chip_1_overlay_writes_paint_unless_refused() {
+    let triple = [write(3, 1), write(3, 2), write(3, 3)];
+    assert_painting(&Bench::fresh(1), &triple, &[2]);
+    let address_3 = Bench::with_places(1, &[(p1::ADDRESS, 3), (p1::POSITION, 2)]);
+    // The second would be refused: the address is 4 by then.
+    assert_painting(&address_3, &[write(3, 1), write(3, 2)], &[0]);
+    let address_4 = Bench::with_places(1, &[(p1::ADDRESS, 4), (p1::POSITION, 2)]);
+    assert_painting(&address_4, &triple, &[]);
+    // A refused overlay write leaves the position for a palette write.
+    assert_painting(&address_4, &[write(3, 1), write(1, 1)], &[1]);
+}
+
+#[test]
+fn chip_1_control_writes_paint_at_4_5_and_6() {
+    for (address, paints) in [
+        (3, false),
+        (4, true),
+        (5, true),
+        (6, true),
+        (7, false),
+        (8, false),
+    ] {
+        for position in 0..=2 {
+            let start = [(p1::ADDRESS, address), (p1::POSITION, position)];
+            let bench = Bench::with_places(1, &start);
+            let indices: &[usize] = if paints { &[0] } else { &[] };
+            assert_painting(&bench, &[write(2, 9), read(2)], indices);
+        }
+    }
+}
+
+#[test]
+fn chip_1_other_accesses_never_paint() {
+    let bench = Bench::with_places(1, &[(p1::ADDRESS, 5), (p1::POSITION, 2)]);
+    let events = [
+        read(2),
+        write(4, 1),
+        write(6, 1),
+        read(7),
+        write(0, 5),
+        read(0),
+    ];
+    assert_painting(&bench, &events, &[]);
+}
+
+#[test]
+fn chip_2_colour_writes_paint_at_position_2_in_direction_write() {
+    let triple = [write(1, 1), write(1, 2), write(1, 3)];
+    assert_painting(&Bench::fresh(2), &triple, &[2]);
+    // An address read leaves the position, so the triple goes on.
+    let watched = [write(1, 1), read(0), write(1, 2), read(3), write(1, 3)];
+    assert_painting(&Bench::fresh(2), &watched, &[4]);
+    let reading = Bench::with_places(2, &[(p2::POSITION, 2), (p2::DIRECTION, 1)]);
+    assert_painting(&reading, &triple, &[]);
+    // A colour read moves the position in direction read, never paints.
+    assert_painting(&reading, &[read(1), read(1), read(1)], &[]);
+    // Refused reads leave the position.
+    let blue = Bench::with_places(2, &[(p2::POSITION, 2)]);
+    assert_painting(&blue, &[read(1), write(1, 1)], &[1]);
+}
+
+#[test]
+fn chip_2_mask_writes_always_paint() {
+    for direction in [0, 1] {
+        for position in 0..=2 {
+            let start = [(p2::POSITION, position), (p2::DIRECTION, direction)];
+            let bench = Bench::with_places(2, &start);
+            assert_painting(&bench, &[write(2, 0), read(2), write(2, 255)], &[0, 2]);
+        }
+    }
+    assert_painting(
+        &Bench::fresh(2),
+        &[write(0, 2), write(3, 2), write(6, 2)],
+        &[],
+    );
+}
+
+#[test]
+fn display_events_and_saves_do_not_count() {
+    let events = [
+        write(1, 1),
+        vertical(),
+        write(1, 2),
+        tick([1, 2, 3, 4, 5, 0, 0, 1]),
+        save_event(),
+        write(1, 3),
+        tick([0, 0, 0, 0, 0, 0, 0, 255]),
+        write(0, 6),
+        save_event(),
+        write(2, 0x40),
+    ];
+    assert_painting(&Bench::fresh(1), &events, &[5, 9]);
+}
+
+#[test]
+fn refused_pairs_are_refused_as_a_run_refuses_them() {
+    let log = log_bytes(1, &[write(1, 1)]);
+    let bad_value = snapshot_bytes(1, &[(1, 0)]);
+    assert_eq!(
+        painting_accesses(&bad_value, &log[..4]),
+        Err(Refusal::Value)
+    );
+    assert_eq!(
+        painting_accesses(&[2, 0, 0], &log[..4]),
+        Err(Refusal::LogShort)
+    );
+    assert_eq!(painting_accesses(&[2, 0, 0], &log), Err(Refusal::TwoChips));
+}
+
+/// Accesses that don't paint leave what a tick can show as it was; that is
+/// what the class is for.
+#[test]
+fn accesses_that_do_not_paint_change_nothing_that_is_shown() {
+    let mut random = Random::seeded(0x5EED_0003);
+    let (mut still, mut painted) = (0, 0);
+    for round in 0..150 {
+        let chip = 1 + (round % 2) as u8;
+        let mut state = random.state(chip);
+        for _ in 0..40 {
+            let event = random.access();
+            assert!(is_access(&event));
+            let snapshot = save(&state).unwrap();
+            let paints = painting_accesses(&snapshot, &log_bytes(chip, &[event])).unwrap();
+            let (_, next) = model::event(&state, event.kind, &event.operand);
+            if paints.is_empty() {
+                assert_eq!(
+                    shown_places(&next.places(), chip),
+                    shown_places(&state.places(), chip)
+                );
+                still += 1;
+            } else {
+                painted += 1;
+            }
+            state = next;
+        }
+    }
+    assert!(still > 2500);
+    assert!(painted > 250);
+}
+
+/// Colours, masks and command: the places that a tick looks at and an access
+/// can change.
+fn shown_places(places: &[u8], chip: u8) -> Vec<u8> {
+    if chip == 1 {
+        [&places[..780], &places[784..787]].concat()
+    } else {
+        [&places[..768], &places[773..774]].concat()
+    }
+}

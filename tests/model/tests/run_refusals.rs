@@ -1,0 +1,324 @@
+//! Refusals of a run: the snapshot's, the log's, 26, 30, 31, each alone, in
+//! every combination of groups, and in order inside each group.
+
+use crate::common::{log_bytes, read, save_event, snapshot_bytes, tick, vertical, write, Random};
+use model::{read_log, run, Event};
+
+/// Runs with buffers of these sizes; gives the result and both buffers.
+fn run_with(
+    snapshot: &[u8],
+    log: &[u8],
+    answer_bytes: usize,
+    end_bytes: usize,
+) -> (u64, Vec<u8>, Vec<u8>) {
+    let mut answers = vec![0xA5; answer_bytes];
+    let mut end = vec![0x5A; end_bytes];
+    let result = run(snapshot, log, &mut answers, &mut end);
+    (result, answers, end)
+}
+
+/// The run must be refused with this number, length 0, no byte changed.
+fn assert_refused(snapshot: &[u8], log: &[u8], answer_bytes: usize, end_bytes: usize, number: u8) {
+    let (result, answers, end) = run_with(snapshot, log, answer_bytes, end_bytes);
+    assert_eq!(result, 65_536 * u64::from(number));
+    assert_eq!(answers, vec![0xA5; answer_bytes]);
+    assert_eq!(end, vec![0x5A; end_bytes]);
+}
+
+fn assert_accepted(snapshot: &[u8], log: &[u8], answer_bytes: usize, end_bytes: usize) {
+    let (result, _, _) = run_with(snapshot, log, answer_bytes, end_bytes);
+    assert_eq!(result >> 16, 0);
+    assert_ne!(result, 0);
+}
+
+/// A log that is refused with this number alone.
+fn assert_log_refused(log: &[u8], number: u8) {
+    assert_eq!(
+        read_log(log).map_err(|refusal| refusal.number()),
+        Err(number)
+    );
+    assert_refused(&[1, 0, 0], log, 100_000, 2370, number);
+}
+
+fn odd_kind(kind: u8) -> Event {
+    Event {
+        kind,
+        operand: [0; 8],
+    }
+}
+
+fn odd_operand(kind: u8, operand: [u8; 8]) -> Event {
+    Event { kind, operand }
+}
+
+/// A snapshot with this fault, 0 for none.
+fn snapshot_with(fault: u8, chip: u8) -> Vec<u8> {
+    match fault {
+        20 => vec![chip, 0],
+        21 => vec![3, 0, 0],
+        22 => vec![chip, 0x16, 0x03], // 790
+        23 => vec![chip, 1, 0],
+        24 => snapshot_bytes(chip, &[(789, 1)]),
+        25 => snapshot_bytes(chip, &[(5, 0)]),
+        _ => snapshot_bytes(chip, &[(5, 9)]),
+    }
+}
+
+/// A log of two events with this fault, 0 for none.
+fn log_with(fault: u8, chip: u8) -> Vec<u8> {
+    let mut events = [write(0, 5), read(0)];
+    match fault {
+        10 => return vec![chip, 2, 0, 0],
+        11 => return log_bytes(0, &events),
+        12 => return vec![chip, 0xB9, 0x0B, 0, 0], // 3,001
+        13 => {
+            let mut bytes = log_bytes(chip, &events);
+            bytes.pop();
+            return bytes;
+        }
+        14 => events[1].kind = 5,
+        15 => events[1].operand[7] = 1,
+        _ => {}
+    }
+    log_bytes(chip, &events)
+}
+
+#[test]
+fn every_combination_of_groups_gives_the_first_refusal() {
+    let mut tried = 0;
+    for snapshot_chip in [1, 2] {
+        for snapshot_fault in [0, 20, 21, 22, 23, 24, 25] {
+            for log_fault in [0, 10, 11, 12, 13, 14, 15] {
+                for other_chip in [false, true] {
+                    for (answer_bytes, answer_fault) in [(36, 0), (35, 30)] {
+                        for (end_bytes, end_fault) in [(2370, 0), (2369, 31)] {
+                            let log_chip = if other_chip {
+                                3 - snapshot_chip
+                            } else {
+                                snapshot_chip
+                            };
+                            let chip_fault = if other_chip { 26 } else { 0 };
+                            let snapshot = snapshot_with(snapshot_fault, snapshot_chip);
+                            let log = log_with(log_fault, log_chip);
+                            let faults = [
+                                snapshot_fault,
+                                log_fault,
+                                chip_fault,
+                                answer_fault,
+                                end_fault,
+                            ];
+                            match faults.into_iter().find(|&fault| fault != 0) {
+                                Some(number) => {
+                                    assert_refused(&snapshot, &log, answer_bytes, end_bytes, number)
+                                }
+                                None => assert_accepted(&snapshot, &log, answer_bytes, end_bytes),
+                            }
+                            tried += 1;
+                        }
+                    }
+                }
+            }
+        }
+    }
+    assert_eq!(tried, 2 * 7 * 7 * 2 * 2 * 2);
+}
+
+#[test]
+fn refusal_10_under_5_bytes_comes_before_11() {
+    for log in [&[][..], &[1], &[1, 0, 0, 0], &[9, 9, 9, 9]] {
+        assert_log_refused(log, 10);
+    }
+}
+
+#[test]
+fn refusal_11_chip_comes_before_12_13_and_14() {
+    for chip in (0..=255).filter(|chip| ![1, 2].contains(chip)) {
+        assert_log_refused(&[chip, 0, 0, 0, 0], 11);
+        assert_log_refused(&[chip, 0xFF, 0xFF, 0xFF, 0xFF], 11);
+        assert_log_refused(&[chip, 1, 0, 0, 0], 11);
+        assert_log_refused(&log_bytes(chip, &[odd_kind(9)]), 11);
+    }
+}
+
+#[test]
+fn refusal_12_count_comes_before_13_and_14() {
+    assert_log_refused(&[1, 0xB9, 0x0B, 0, 0], 12);
+    assert_log_refused(&[1, 0, 0, 1, 0], 12);
+    assert_log_refused(&[1, 0, 0, 0, 1], 12);
+    assert_log_refused(&[1, 0xFF, 0xFF, 0xFF, 0xFF], 12);
+    // 3,001 events of the right length, good ones or not.
+    assert_log_refused(&log_bytes(1, &vec![vertical(); 3001]), 12);
+    assert_log_refused(&log_bytes(1, &vec![odd_kind(7); 3001]), 12);
+}
+
+#[test]
+fn refusal_13_length_comes_before_14_and_15() {
+    for events in [
+        vec![],
+        vec![vertical()],
+        vec![odd_kind(5); 2],
+        vec![odd_operand(4, [1; 8]); 3],
+    ] {
+        let bytes = log_bytes(1, &events);
+        let mut longer = bytes.clone();
+        longer.push(0);
+        assert_log_refused(&longer, 13);
+        if !events.is_empty() {
+            assert_log_refused(&bytes[..bytes.len() - 1], 13);
+        }
+    }
+}
+
+#[test]
+fn refusals_14_and_15_the_lowest_index_decides() {
+    let good = write(0, 5);
+    let bad_kind = odd_kind(5);
+    let bad_operand = odd_operand(1, [0, 1, 0, 0, 0, 0, 0, 0]);
+    for chip in [1, 2] {
+        for (events, number) in [
+            (vec![bad_kind], 14),
+            (vec![bad_operand], 15),
+            (vec![bad_operand, bad_kind], 15),
+            (vec![bad_kind, bad_operand], 14),
+            (vec![good, good, bad_operand, good, bad_kind], 15),
+            (vec![good, bad_kind, good, bad_operand, good], 14),
+            (vec![good, good, good, bad_operand], 15),
+        ] {
+            assert_log_refused(&log_bytes(chip, &events), number);
+        }
+    }
+}
+
+#[test]
+fn refusals_14_and_15_at_one_index_the_smaller_number() {
+    let both = odd_operand(200, [1; 8]);
+    let bad_operand = odd_operand(4, [0, 0, 0, 0, 0, 0, 0, 1]);
+    for chip in [1, 2] {
+        assert_log_refused(&log_bytes(chip, &[both]), 14);
+        assert_log_refused(&log_bytes(chip, &[both, bad_operand]), 14);
+        assert_log_refused(&log_bytes(chip, &[bad_operand, both]), 15);
+    }
+}
+
+#[test]
+fn refusal_15_goes_by_the_logs_chip() {
+    // Byte 1 is pixel B of chip 1; chip 2 has no use for it.
+    let event = tick([0, 1, 0, 0, 0, 0, 0, 1]);
+    assert_accepted(&[1, 0, 0], &log_bytes(1, &[event]), 18, 2370);
+    assert_refused(&[2, 0, 0], &log_bytes(2, &[event]), 18, 2370, 15);
+    // The log is checked before 26, so the snapshot's chip doesn't matter.
+    assert_refused(&[1, 0, 0], &log_bytes(2, &[event]), 18, 2370, 15);
+    assert_refused(&[2, 0, 0], &log_bytes(1, &[event]), 18, 2370, 26);
+}
+
+#[test]
+fn refusal_26_both_ways_round() {
+    for (snapshot_chip, log_chip) in [(1, 2), (2, 1)] {
+        let log = log_bytes(log_chip, &[save_event()]);
+        assert_refused(&[snapshot_chip, 0, 0], &log, 18, 2370, 26);
+        // 26 comes before 30 and 31.
+        assert_refused(&[snapshot_chip, 0, 0], &log, 17, 2370, 26);
+        assert_refused(&[snapshot_chip, 0, 0], &log, 18, 2369, 26);
+        assert_refused(&[snapshot_chip, 0, 0], &log, 0, 0, 26);
+    }
+}
+
+#[test]
+fn refusal_30_one_byte_short_exact_and_longer() {
+    for count in [1, 2, 7] {
+        let log = log_bytes(2, &vec![read(2); count]);
+        assert_refused(&[2, 0, 0], &log, 18 * count - 1, 2370, 30);
+        assert_refused(&[2, 0, 0], &log, 0, 2370, 30);
+        assert_accepted(&[2, 0, 0], &log, 18 * count, 2370);
+        assert_accepted(&[2, 0, 0], &log, 18 * count + 1, 2370);
+        // 30 comes before 31.
+        assert_refused(&[2, 0, 0], &log, 18 * count - 1, 2369, 30);
+    }
+    // No events need no answer buffer.
+    assert_accepted(&[2, 0, 0], &log_bytes(2, &[]), 0, 2370);
+}
+
+#[test]
+fn refusal_31_one_byte_short_exact_and_longer() {
+    for chip in [1, 2] {
+        let log = log_bytes(chip, &[read(0)]);
+        for size in [0, 3, 2325, 2369] {
+            assert_refused(&[chip, 0, 0], &log, 18, size, 31);
+        }
+        assert_accepted(&[chip, 0, 0], &log, 18, 2370);
+        assert_accepted(&[chip, 0, 0], &log, 18, 2371);
+        assert_refused(&[chip, 0, 0], &log_bytes(chip, &[]), 0, 2369, 31);
+    }
+}
+
+#[test]
+fn bytes_past_the_answers_and_the_end_snapshot_do_not_change() {
+    // Address 5 written and read on chip 2: document 01's printing example.
+    let log = log_bytes(2, &[write(0, 5), read(0)]);
+    let (result, answers, end) = run_with(&[2, 0, 0], &log, 36 + 20, 2370 + 20);
+    assert_eq!(result, 6);
+    assert_eq!(answers[..18], [0; 18]);
+    assert_eq!(answers[18..20], [0, 5]);
+    assert_eq!(answers[20..36], [0; 16]);
+    assert_eq!(answers[36..], [0xA5; 20]);
+    assert_eq!(end[..6], [2, 1, 0, 0, 3, 5]);
+    assert_eq!(end[6..], [0x5A; 2370 + 20 - 6]);
+}
+
+#[test]
+fn refusals_1_to_5_sit_in_their_answers_and_stop_nothing() {
+    let log = log_bytes(
+        1,
+        &[
+            write(9, 0),
+            write(0, 8),
+            read(2),
+            tick([0, 0, 0, 0, 0, 0, 0, 4]),
+            vertical(),
+            read(0),
+        ],
+    );
+    let (result, answers, end) = run_with(&[1, 0, 0], &log, 108, 2370);
+    let firsts: Vec<[u8; 2]> = answers
+        .chunks(18)
+        .map(|answer| [answer[0], answer[1]])
+        .collect();
+    assert_eq!(firsts, [[1, 0], [0, 0], [2, 0], [4, 0], [0, 0], [0, 8]]);
+    // Address 8 at place 780 and one vertical period at 788.
+    assert_eq!(result, 9);
+    assert_eq!(end[..9], [1, 2, 0, 0x0C, 0x03, 0x14, 0x03, 8, 1]);
+
+    let log = log_bytes(2, &[read(1), vertical(), write(3, 7), write(1, 1), read(3)]);
+    let (result, answers, end) = run_with(&[2, 0, 0], &log, 90, 2370);
+    let firsts: Vec<[u8; 2]> = answers
+        .chunks(18)
+        .map(|answer| [answer[0], answer[1]])
+        .collect();
+    assert_eq!(firsts, [[3, 0], [5, 0], [0, 0], [3, 0], [0, 8]]);
+    assert_eq!(result, 9);
+    assert_eq!(end[..9], [2, 2, 0, 0x00, 0x03, 0x02, 0x03, 8, 1]);
+}
+
+#[test]
+fn a_run_is_its_events_called_one_after_another() {
+    let mut random = Random::seeded(0x5EED_0001);
+    for round in 0..200 {
+        let chip = 1 + (round % 2) as u8;
+        let start = random.state(chip);
+        let events: Vec<Event> = (0..random.below(60)).map(|_| random.event(chip)).collect();
+        let mut state = start.clone();
+        let mut expected = Vec::new();
+        for event in &events {
+            let (answer, next) = model::event(&state, event.kind, &event.operand);
+            expected.extend(answer);
+            state = next;
+        }
+        let snapshot = model::save(&start).unwrap();
+        let log = log_bytes(chip, &events);
+        let (result, answers, end) = run_with(&snapshot, &log, 18 * events.len(), 2370);
+        let end_snapshot = model::save(&state).unwrap();
+        assert_eq!(result, end_snapshot.len() as u64);
+        assert_eq!(answers, expected);
+        assert_eq!(end[..end_snapshot.len()], end_snapshot);
+    }
+}

@@ -1,0 +1,242 @@
+//! Refusals of a restore (20 to 25), of a save (25) and of saving into a lent
+//! buffer (25, then 31), as calls of their own.
+
+use crate::common::{largest, p1, p2, place_count, snapshot_bytes, Bench};
+use model::{restore, save, save_into, Refusal, State};
+
+/// A refused restore gives a fresh chip 1 beside its number.
+fn assert_refused(bytes: &[u8], number: u8) {
+    let restored = restore(bytes);
+    assert_eq!(restored.refusal.map(Refusal::number), Some(number));
+    assert_eq!(Some(restored.state), State::fresh(1));
+}
+
+fn assert_accepted(bytes: &[u8]) -> State {
+    let restored = restore(bytes);
+    assert_eq!(restored.refusal, None);
+    restored.state
+}
+
+/// The first N places of a chip, all with the value 1.
+fn first_places(chip: u8, count: usize) -> Vec<u8> {
+    let pairs: Vec<(u16, u8)> = (0..count as u16).map(|place| (place, 1)).collect();
+    snapshot_bytes(chip, &pairs)
+}
+
+#[test]
+fn fresh_chips_are_three_bytes() {
+    assert_eq!(Some(assert_accepted(&[1, 0, 0])), State::fresh(1));
+    assert_eq!(Some(assert_accepted(&[2, 0, 0])), State::fresh(2));
+    assert_eq!(save(&State::fresh(1).unwrap()), Ok(vec![1, 0, 0]));
+    assert_eq!(save(&State::fresh(2).unwrap()), Ok(vec![2, 0, 0]));
+}
+
+#[test]
+fn a_state_cannot_name_a_chip_that_is_not_built() {
+    // So refusal 21 never comes from a state.
+    for chip in (0..=255).filter(|chip| ![1, 2].contains(chip)) {
+        assert_eq!(State::fresh(chip), None);
+        assert_eq!(State::from_places(chip, &[0; p1::COUNT]), None);
+    }
+    assert_eq!(State::from_places(1, &[0; p2::COUNT]), None);
+    assert_eq!(State::from_places(2, &[0; p1::COUNT]), None);
+    assert_eq!(State::from_places(1, &[0; p1::COUNT]), State::fresh(1));
+    assert_eq!(State::from_places(2, &[0; p2::COUNT]), State::fresh(2));
+}
+
+#[test]
+fn refusal_20_under_3_bytes() {
+    assert_refused(&[], 20);
+    assert_refused(&[1], 20);
+    assert_refused(&[1, 0], 20);
+    // 20 comes before 21.
+    assert_refused(&[9, 9], 20);
+}
+
+#[test]
+fn refusal_21_chip() {
+    for chip in (0..=255).filter(|chip| ![1, 2].contains(chip)) {
+        assert_refused(&[chip, 0, 0], 21);
+        // 21 comes before 22 and 23.
+        assert_refused(&[chip, 0xFF, 0xFF], 21);
+    }
+}
+
+#[test]
+fn refusal_22_count_over_the_places() {
+    for chip in [1, 2] {
+        let most = place_count(chip);
+        assert_accepted(&first_places(chip, most));
+        // One place too many: the right length for it doesn't help (24 and 23
+        // would come after).
+        assert_refused(&first_places(chip, most + 1), 22);
+        assert_refused(&[chip, 0xFF, 0xFF], 22);
+    }
+    // 775 to 789 places are too many for chip 2 alone.
+    assert_accepted(&first_places(1, 775));
+    assert_refused(&first_places(2, 775), 22);
+}
+
+#[test]
+fn refusal_23_length() {
+    for count in [0, 1, 2, 774] {
+        let bytes = first_places(1, count);
+        let mut longer = bytes.clone();
+        longer.push(1);
+        assert_accepted(&bytes);
+        assert_refused(&longer, 23);
+        if count > 0 {
+            assert_refused(&bytes[..bytes.len() - 1], 23);
+        }
+    }
+    // 23 comes before 24 and 25.
+    let mut wrong = snapshot_bytes(2, &[(900, 0)]);
+    assert_refused(&wrong, 24);
+    wrong.push(0);
+    assert_refused(&wrong, 23);
+}
+
+#[test]
+fn refusal_24_places() {
+    for chip in [1u8, 2] {
+        let last = place_count(chip) as u16 - 1;
+        assert_accepted(&snapshot_bytes(chip, &[(0, 1), (last, 1)]));
+        assert_refused(&snapshot_bytes(chip, &[(last + 1, 1)]), 24);
+        assert_refused(&snapshot_bytes(chip, &[(0xFFFF, 1)]), 24);
+        // Not above the one before: equal, or lower.
+        assert_refused(&snapshot_bytes(chip, &[(5, 1), (5, 1)]), 24);
+        assert_refused(&snapshot_bytes(chip, &[(5, 1), (4, 1)]), 24);
+        assert_refused(&snapshot_bytes(chip, &[(0, 1), (0, 1)]), 24);
+        assert_refused(&snapshot_bytes(chip, &[(1, 1), (3, 1), (2, 1)]), 24);
+        assert_accepted(&snapshot_bytes(chip, &[(5, 1), (6, 1)]));
+        // The high byte of a place number counts.
+        assert_accepted(&snapshot_bytes(chip, &[(0x00FF, 1), (0x0100, 1)]));
+        assert_refused(&snapshot_bytes(chip, &[(0x0100, 1), (0x00FF, 1)]), 24);
+    }
+}
+
+#[test]
+fn refusal_25_values() {
+    for chip in [1u8, 2] {
+        for place in 0..place_count(chip) {
+            let most = largest(chip, place);
+            let number = place as u16;
+            assert_refused(&snapshot_bytes(chip, &[(number, 0)]), 25);
+            assert_accepted(&snapshot_bytes(chip, &[(number, 1)]));
+            assert_accepted(&snapshot_bytes(chip, &[(number, most)]));
+            if most < 255 {
+                assert_refused(&snapshot_bytes(chip, &[(number, most + 1)]), 25);
+                assert_refused(&snapshot_bytes(chip, &[(number, 255)]), 25);
+            }
+        }
+    }
+}
+
+#[test]
+fn refusals_24_and_25_the_lowest_index_decides() {
+    // Index 0 has a bad value, index 1 a bad place: 25 is met first.
+    assert_refused(&snapshot_bytes(1, &[(4, 0), (900, 1)]), 25);
+    assert_refused(&snapshot_bytes(1, &[(781, 3), (781, 1)]), 25);
+    // Index 0 has a bad place, index 1 a bad value: 24 is met first.
+    assert_refused(&snapshot_bytes(1, &[(900, 1), (901, 0)]), 24);
+    assert_refused(&snapshot_bytes(2, &[(7, 1), (7, 1), (8, 64)]), 24);
+    // The same further on.
+    assert_refused(&snapshot_bytes(2, &[(1, 1), (2, 64), (3, 1), (3, 1)]), 25);
+    assert_refused(&snapshot_bytes(2, &[(1, 1), (2, 63), (2, 1), (3, 0)]), 24);
+}
+
+#[test]
+fn refusals_24_and_25_at_one_index_the_smaller_number() {
+    assert_refused(&snapshot_bytes(1, &[(789, 0)]), 24);
+    assert_refused(&snapshot_bytes(2, &[(774, 0)]), 24);
+    assert_refused(&snapshot_bytes(1, &[(781, 1), (781, 3)]), 24);
+    assert_refused(&snapshot_bytes(1, &[(5, 1), (5, 0)]), 24);
+    assert_refused(&snapshot_bytes(2, &[(5, 1), (4, 64)]), 24);
+}
+
+#[test]
+fn a_restore_puts_every_value_at_its_place() {
+    let state = assert_accepted(&snapshot_bytes(
+        1,
+        &[(0, 7), (780, 8), (781, 2), (788, 127)],
+    ));
+    let mut expected = vec![0; p1::COUNT];
+    (expected[0], expected[780], expected[781], expected[788]) = (7, 8, 2, 127);
+    assert_eq!(state.chip(), 1);
+    assert_eq!(state.places(), expected);
+
+    let state = assert_accepted(&snapshot_bytes(
+        2,
+        &[(767, 63), (768, 255), (770, 1), (773, 9)],
+    ));
+    let mut expected = vec![0; p2::COUNT];
+    (expected[767], expected[768], expected[770], expected[773]) = (63, 255, 1, 9);
+    assert_eq!(state.chip(), 2);
+    assert_eq!(state.places(), expected);
+}
+
+#[test]
+fn a_save_writes_exactly_the_places_that_are_not_0() {
+    let chip = Bench::with_places(1, &[(2, 0x0A), (300, 0xFF), (783, 1)]);
+    assert_eq!(
+        save(&chip.state),
+        Ok(vec![
+            1, 3, 0, 0x02, 0x00, 0x2C, 0x01, 0x0F, 0x03, 0x0A, 0xFF, 0x01
+        ])
+    );
+}
+
+#[test]
+fn save_refuses_25() {
+    for (chip, place) in [(1, 781), (1, 788), (2, 0), (2, 769), (2, 770), (2, 772)] {
+        let bench = Bench::with_places(chip, &[(place, largest(chip, place) + 1)]);
+        assert_eq!(save(&bench.state), Err(Refusal::Value));
+    }
+}
+
+#[test]
+fn save_into_a_lent_buffer_one_short_exact_and_longer() {
+    for chip in [1, 2] {
+        let bench = Bench::with_places(chip, &[(2, 0x0A), (300, 0x3F)]);
+        let bytes = [chip, 2, 0, 0x02, 0x00, 0x2C, 0x01, 0x0A, 0x3F];
+        for size in [2370, 2371, 5000] {
+            let mut buffer = vec![0xEE; size];
+            let saved = save_into(&bench.state, &mut buffer);
+            assert_eq!(saved.refusal, None);
+            assert_eq!(saved.length, 9);
+            assert_eq!(buffer[..9], bytes);
+            assert_eq!(buffer[9..], vec![0xEE; size - 9]);
+        }
+        for size in [0, 9, 2325, 2369] {
+            let mut buffer = vec![0xEE; size];
+            let saved = save_into(&bench.state, &mut buffer);
+            assert_eq!(saved.refusal, Some(Refusal::EndBuffer));
+            assert_eq!(saved.length, 0);
+            assert_eq!(buffer, vec![0xEE; size]);
+        }
+    }
+}
+
+#[test]
+fn save_into_looks_for_25_before_31() {
+    let bench = Bench::with_places(1, &[(p1::POSITION, 3)]);
+    for size in [0, 2369, 2370] {
+        let mut buffer = vec![0xEE; size];
+        let saved = save_into(&bench.state, &mut buffer);
+        assert_eq!(saved.refusal, Some(Refusal::Value));
+        assert_eq!(saved.length, 0);
+        assert_eq!(buffer, vec![0xEE; size]);
+    }
+}
+
+#[test]
+fn the_longest_snapshot_fills_the_buffer() {
+    let bench = Bench {
+        state: assert_accepted(&first_places(1, p1::COUNT)),
+    };
+    let mut buffer = vec![0xEE; 2370];
+    let saved = save_into(&bench.state, &mut buffer);
+    assert_eq!(saved.refusal, None);
+    assert_eq!(saved.length, 2370);
+    assert_eq!(buffer, first_places(1, p1::COUNT));
+}

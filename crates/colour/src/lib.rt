@@ -1,6 +1,7 @@
 // The colour port that the chips have in common: address, position and held bytes, and how colour accesses move them.
 ghost use mathlib.Core.Path.{_≡_};
 ghost use Prim.Native.Nat.{_+_, _*_, _<_, _≤_};
+ghost use lib.Bits.{bitAnd};
 ghost use lib.ListN.{length};
 ghost use Rattle.colour.specs.Colour.{pointed, onward, held, stored, component};
 ghost use Rattle.colour.specs.Struct.{cursorOf};
@@ -83,8 +84,16 @@ impl Cursor {
     }
 }
 
-fn wide(x: u8) -> usize
-    ensures { λ r. ⌜ r ≡ x ⌝ }
+// A byte as an index.
+pub fn wide(x: u8) -> usize
+    ensures { λ r. ⌜ (r ≡ x) × (r < 256) ⌝ }
 {
     x as usize
+}
+
+// The pixel bits that a mask leaves.
+pub fn masked(pixel: u8, mask: u8) -> u8
+    ensures { λ r. ⌜ r ≡ bitAnd pixel mask ⌝ }
+{
+    pixel & mask
 }

@@ -2,10 +2,12 @@
 -- Assumes nothing.
 use Prim.Native.Nat.{ℕ, zero, suc, _+_, _≤_, _<_}
 use mathlib.Core.Path.{_≡_, refl, sym, _∙_, ap}
-use mathlib.Core.List.{List, [], _∷_, _++_}
+use mathlib.Core.List.{List, [], _∷_, _++_, append-nil}
 use native.Mathlib.Omega.{arith}
 use native.Mathlib.Nat.{zero-add, suc-add}
-use lib.ListN.{length, getD, set, take, drop, replicate}
+use native.Mathlib.Numerals.{add-one}
+use lib.ListN.{length, getD, set, take, drop, replicate, length-append, length-drop, drop-of-length-le}
+use lib.Seq.{length-take-le, drop-cons, set-at, take-suc, append-snoc, take-length, take-at, sets, sets-eq}
 
 -- what holds of each element at its index still does after a store
 pub set-all : (P : ℕ → ℕ → Type 0) (l : List ℕ) (i v : ℕ) → P i v → ((j : ℕ) → P j (getD l j 0)) → (j : ℕ) → P j (getD (set l i v) j 0)
@@ -34,3 +36,22 @@ take-small m l zero i h = omega arith
 take-small m [] (suc n) i h = omega arith
 take-small m (x ∷ l) (suc n) zero h = h 0 (omega arith)
 take-small m (x ∷ l) (suc n) (suc i) h = take-small m l n i (λ j k. h (suc j) (omega arith))
+
+-- one element more copied over the start of another list
+pub copy-more : (s d : List ℕ) (i : ℕ) → i < length s → i < length d → set (take i s ++ drop i d) i (getD s i 0) ≡ take (i + 1) s ++ drop (i + 1) d
+copy-more s d i h h′ =
+    let front : length (take i s) ≡ i = length-take-le i s (omega arith) in
+    ap (λ l. set (take i s ++ l) i (getD s i 0)) (drop-cons d i 0 h′)
+    ∙ set-at (take i s) (getD d i 0) (drop (suc i) d) (getD s i 0) i front
+    ∙ rw (add-one i, take-suc s i 0 h, append-snoc)
+
+-- all of it
+pub copy-all : (s d : List ℕ) (i : ℕ) → length s ≤ i → i ≤ length s → take i s ++ drop i d ≡ s ++ drop (length s) d
+copy-all s d i h h′ = let e : i ≡ length s = omega arith in rw (e, take-length)
+
+-- n elements copied over the start of a list, and the rest of it stored behind them
+pub stored-behind : (s room vs : List ℕ) (n : ℕ) → length s ≡ n → length room ≡ n + length vs → sets (s ++ drop (length s) room) n vs ≡ s ++ vs
+stored-behind s room vs n e h =
+    let l : List ℕ = s ++ drop (length s) room in
+    let long : length l ≡ n + length vs = simp (length-append, length-drop) (omega arith) in
+    sets-eq vs l n (omega arith) ∙ rw (take-at s (drop (length s) room) n e, drop-of-length-le l {i = n + length vs} (omega arith), append-nil)

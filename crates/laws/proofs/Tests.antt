@@ -1,6 +1,7 @@
 -- A choice by a test.
 -- Assumes nothing.
-use Prim.Native.Nat.{ℕ}
+use Prim.Native.Nat.{ℕ, zero, suc, _≤_}
+use native.Mathlib.Omega.{arith}
 use mathlib.Core.Path.{_≡_, refl}
 use mathlib.Core.Bool.{Bool, true, false, cond, _&&_, false≢true}
 
@@ -31,3 +32,11 @@ passed false n y h e = (refl, e)
 pub needed : (b : Bool) (x n : ℕ) → (n ≡ 0 → ⊥) → cond b x n ≡ 0 → (b ≡ true) × (x ≡ 0)
 needed true x n h e = (refl, e)
 needed false x n h e = absurd (h e)
+
+-- none of the first four numbers
+pub four : (k : ℕ) → (k ≡ 0 → ⊥) → (k ≡ 1 → ⊥) → (k ≡ 2 → ⊥) → (k ≡ 3 → ⊥) → 4 ≤ k
+four zero a b c d = absurd (a refl)
+four (suc zero) a b c d = absurd (b refl)
+four (suc (suc zero)) a b c d = absurd (c refl)
+four (suc (suc (suc zero))) a b c d = absurd (d refl)
+four (suc (suc (suc (suc k)))) a b c d = omega arith

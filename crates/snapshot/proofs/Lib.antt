@@ -3,3 +3,4 @@ pub mod Stores
 pub mod Pairs
 pub mod Valid
 pub mod RoundTrip
+pub mod Parts

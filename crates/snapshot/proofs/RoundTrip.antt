@@ -4,14 +4,14 @@ use Prim.Native.Nat.{ℕ, zero, suc, _+_, _-_, _*_, _≤_, _<_, _/_, _%_}
 use mathlib.Core.Path.{_≡_, _∙_, refl, sym, ap}
 use mathlib.Core.Bool.{Bool, true, false, cond}
 use mathlib.Core.List.{List, [], _∷_, _++_, append-assoc, append-nil}
-use native.Mathlib.Nat.{add-zero, zero-add, add-suc, suc-add, add-mul-mod-self-left, add-mul-div-left, mod-eq-of-lt, div-eq-of-lt}
+use native.Mathlib.Nat.{add-zero, zero-add, sub-zero, add-suc, suc-add, add-mul-mod-self-left, add-mul-div-left, mod-eq-of-lt, div-eq-of-lt}
 use native.Mathlib.Numerals.{add-one}
 use native.Mathlib.Omega.{arith}
 use borrow.Author.Tests.{eq-eqb, ne-eqb, le-ltb, lt-leb, ltb-false, eqb-false, eqb-true, leb-false}
 use lib.Dec.{eqb, ltb, leb, eqb·suc-zero}
 use lib.ListN.{length, getD, set, take, drop, replicate, length-append, length-drop, length-take, length-replicate, replicate-append-replicate, take-append-drop}
 use lib.Seq.{getD-drop, append-snoc, set-at, take-at, drop-at, drop-drop, drop-cons}
-use Rattle.snapshot.specs.Snapshot.{numbersFrom, valuesOf, twoBytes, snapshotOf, wordsOf, pairsRefusal, placed, countOf, numbersIn, valuesIn, refusalOf, restored, Valid}
+use Rattle.snapshot.specs.Snapshot.{numbersFrom, valuesOf, twoBytes, snapshotOf, wordsOf, pairsRefusal, placed, countOf, numbersIn, valuesIn, refusalOf, restored, restoredBy, resaved, over, Valid}
 use Rattle.snapshot.proofs.Stores.{numbers-long, values-short, snapshot-long}
 use Rattle.snapshot.proofs.Pairs.{accepted, pair-accepted}
 
@@ -85,6 +85,30 @@ unfolding restored
 restored-back chip t l h v =
     let h′ : length l ≤ 65535 = omega (arith, v .long) in
     rw (numbers-back chip l h′, values-back chip l h′, ← v .long) (placed-back l [])
+
+-- so a save gives back the state of valid places
+pub restored-by-back : {S : Type 0} (chip : ℕ) (t l : List ℕ) (from : List ℕ → S) (fresh : S) → length t ≤ 65535 → Valid t l → restoredBy chip t from fresh (snapshotOf chip l) ≡ from l
+unfolding restoredBy
+restored-by-back chip t l from fresh h v = simp (eq-eqb _ _ (accepted-back chip t l h v), restored-back chip t l h v)
+
+-- a state is made of restored places, or places are restored and a state is made of them
+pub restored-by : {S : Type 0} (chip : ℕ) (t s z : List ℕ) (from : List ℕ → S) → from (restoredBy chip t (λ l. l) z s) ≡ restoredBy chip t from (from z) s
+unfolding restoredBy
+restored-by chip t s z from = go (eqb (refusalOf chip t s) 0)
+  where
+    go : (b : Bool) → from (cond b (restored (length t) s) z) ≡ cond b (from (restored (length t) s)) (from z)
+    go true = refl
+    go false = refl
+
+-- what decoding leaves in cleared places, of the bytes that encoding wrote
+pub resaved-from : (chip n : ℕ) (t l room bytes cleared : List ℕ) → length t ≡ length l → n ≡ length (snapshotOf chip l) → bytes ≡ over (snapshotOf chip l) room → cleared ≡ replicate (length l) 0
+    → cond (eqb (refusalOf chip t (take (n - 0) bytes)) 0) (restored (length cleared) (take (n - 0) bytes)) cleared ≡ resaved chip t l
+unfolding restoredBy
+resaved-from chip n t l room bytes cleared same e written zeros =
+    let s : List ℕ = snapshotOf chip l in
+    let part : take (n - 0) bytes ≡ s = rw (sub-zero, written) (take-at s (drop (length s) room) n (sym e)) in
+    let size : length cleared ≡ length t = ap length zeros ∙ length-replicate (length l) 0 ∙ sym same in
+    rw (part, size, zeros, same)
 
 -- ---- and bytes to places to bytes
 

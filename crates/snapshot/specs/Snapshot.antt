@@ -113,6 +113,10 @@ restored n s = placed (numbersIn s) (valuesIn s) (replicate n 0)
 unfoldable pub restoredBy : {S : Type 0} → ℕ → List ℕ → (List ℕ → S) → S → List ℕ → S
 restoredBy chip largest from fresh s = cond (eqb (refusalOf chip largest s) 0) (from (restored (length largest) s)) fresh
 
+-- a save: the places turned into a snapshot, and restored from its bytes; zeros where that is refused
+abbrev pub resaved : ℕ → List ℕ → List ℕ → List ℕ
+resaved chip largest places = restoredBy chip largest (λ l. l) (replicate (length largest) 0) (snapshotOf chip places)
+
 -- what decoding returns, and what it leaves in the places that were lent
 pub record Decoded (chip : ℕ) (largest s places : List ℕ) (r : ℕ) (after : List ℕ) : Type 0 where
   pub refusal : r ≡ refusalOf chip largest s

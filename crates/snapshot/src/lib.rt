@@ -3,7 +3,7 @@ ghost use mathlib.Core.Path.{_≡_};
 ghost use Prim.Native.Nat.{_+_, _*_, _<_, _≤_};
 ghost use lib.ListN.{length, replicate};
 ghost use lib.Seq.{sets};
-ghost use Rattle.snapshot.specs.Snapshot.{within as fits, numbersFrom, valuesOf, twoBytes, snapshotOf, over, wordAt, wordsOf, pairsRefusal, placed, refusalOf, Decoded};
+ghost use Rattle.snapshot.specs.Snapshot.{within as fits, numbersFrom, valuesOf, twoBytes, snapshotOf, over, wordAt, wordsOf, pairsRefusal, placed, refusalOf, resaved, Decoded};
 
 // As many places as the table has, each at most its largest value.
 pub fn within(largest: &[u8], places: &[u8]) -> bool
@@ -193,4 +193,27 @@ pub fn decode(chip: u8, largest: &[u8], s: &[u8], places: &mut [u8]) -> u8
     clear(places);
     put_places(&s[3..mid], &s[mid..], places);
     0
+}
+
+// A save: the places turned into a snapshot, and restored from its bytes, both for real.
+pub fn save_places(chip: u8, largest: &[u8], places: &mut [u8])
+    requires { ⌜ (length (now largest) ≡ length (now places)) × (length (now places) ≤ 789) ⌝ }
+    ensures { λ _. ⌜ now (places .exit) ≡ resaved chip (now (largest .entry)) (now (places .entry)) ⌝ }
+{
+    let mut bytes = [0u8; 2370];
+    let n = encode(chip, places, &mut bytes);
+    clear(places);
+    decode(chip, largest, &bytes[0..n], places);
+}
+
+// Copies from over the start of to.
+pub fn copy(from: &[u8], to: &mut [u8])
+    requires { ⌜ length (now from) ≤ length (now to) ⌝ }
+    ensures { λ _. ⌜ now (to .exit) ≡ over (now (from .entry)) (now (to .entry)) ⌝ }
+{
+    let mut i = 0;
+    while i < from.len() {
+        to[i] = from[i];
+        i += 1;
+    }
 }

@@ -1,26 +1,19 @@
 use lib.Dec.{eqb}
 -- `Cursor::write` meets its contract.
 -- Assumes nothing.
-use Rattle.colour.specs.Colour.{onward, held, stored}
-use denote.Ref.{now}
-use lib.ListN.{length, getD, set, length-set}
-use borrow.Author.Tests.{le-ltb, lt-ltb, le-leb, lt-leb, eq-eqb, ne-eqb}
+use Rattle.colour.specs.Colour.{held, stored}
+use lib.ListN.{length-set}
+use borrow.Author.Tests.{eq-eqb, ne-eqb}
 use native.Mathlib.Omega.{arith}
-use mathlib.Core.Bool.{Bool, true, false}
-use mathlib.Core.Path.{_≡_, refl, sym, _∙_, ap}
-use Prim.Native.Nat.{ℕ, suc, _+_, _-_, _*_, _/_, _%_, _≤_, _<_}
+use mathlib.Core.Bool.{false}
+use mathlib.Core.Path.{_≡_, _∙_}
 use borrow.Author.Needs.{needs}
 use Rattle.colour.proofs.Cursor.write.Statement.{statement}
 use Rattle.colour.proofs.Cursor.write.Tie as tie
-use Rattle.colour.proofs.Cursor.write.Reads as reads
-use Rattle.colour.proofs.Cursor.write.Lts as lts
-use Rattle.colour.proofs.Cursor.next.Reads as next-reads
 
--- src/lib.rt:63:13
 next-requires : tie.Need-next-requires
 next-requires c κs = search needs
 
--- src/lib.rt:63:13
 returns : tie.Need-returns
 unfolding held stored
 returns c =
@@ -32,11 +25,9 @@ returns c =
     let two : eqb at 2 ≡ false = ne-eqb at 2 (λ e. omega arith) in
     (c .next .ensures ∙ simp (eq-eqb _ _ zero, one), simp two)
 
--- src/lib.rt:67:13
 next-requires-2 : tie.Need-next-requires-2
 next-requires-2 c κs = search needs
 
--- src/lib.rt:67:13
 returns-2 : tie.Need-returns-2
 unfolding held stored
 returns-2 c =
@@ -48,39 +39,32 @@ returns-2 c =
     let two : eqb at 2 ≡ false = ne-eqb at 2 (λ e. omega arith) in
     (c .next2 .ensures ∙ simp (ne-eqb _ _ (if1 .left), eq-eqb _ _ one), simp two)
 
--- src/lib.rt:69:21
 mul-first : tie.Need-mul-first
 mul-first c = search needs
 
--- src/lib.rt:70:9
 slice-write-colours : tie.Need-slice-write-colours
 slice-write-colours c = search needs
 
--- src/lib.rt:71:17
 add-colours : tie.Need-add-colours
 add-colours c = search needs
 
--- src/lib.rt:71:9
 slice-write-colours-2 : tie.Need-slice-write-colours-2
-slice-write-colours-2 c = simp length-set (omega (arith, c .before .before .before .pre))
+slice-write-colours-2 c =
+    let pre = c .before .before .before .pre in
+    simp length-set (omega (arith, pre))
 
--- src/lib.rt:72:17
 add-colours-2 : tie.Need-add-colours-2
 add-colours-2 c = search needs
 
--- src/lib.rt:72:9
 slice-write-colours-3 : tie.Need-slice-write-colours-3
 slice-write-colours-3 c = search needs
 
--- src/lib.rt:73:9
 next-requires-3 : tie.Need-next-requires-3
 next-requires-3 c κs = search needs
 
--- src/lib.rt:55:5
 same-length : tie.Need-same-length
 same-length c = search needs
 
--- src/lib.rt:55:5
 returns-3 : tie.Need-returns-3
 unfolding held stored
 returns-3 c =

@@ -1,0 +1,61 @@
+-- `places_of` meets its contract.
+-- Assumes nothing.
+use Rattle.hd153129.specs.Struct.{joined}
+use Rattle.hd153129.specs.Places.{tailOf, placesOf}
+use Rattle.laws.proofs.Lists.{stored-behind}
+use denote.Ref.{now}
+use lib.ListN.{replicate}
+use lib.Seq.{sets}
+use mathlib.Core.List.{List}
+use mathlib.Core.Path.{refl, _∙_, ap}
+use Prim.Native.Nat.{ℕ}
+use borrow.Author.Needs.{needs}
+use Rattle.hd153129.proofs.places.places_of.Statement.{statement}
+use Rattle.hd153129.proofs.places.places_of.Tie as tie
+
+slice-aggregate-copy : tie.Need-slice-aggregate-copy
+slice-aggregate-copy c = search needs
+
+copy-requires : tie.Need-copy-requires
+copy-requires c κs = search needs
+
+array-write-places : tie.Need-array-write-places
+array-write-places c = search needs
+
+array-write-places-2 : tie.Need-array-write-places-2
+array-write-places-2 c = search needs
+
+array-write-places-3 : tie.Need-array-write-places-3
+array-write-places-3 c = search needs
+
+array-write-places-4 : tie.Need-array-write-places-4
+array-write-places-4 c = search needs
+
+array-write-places-5 : tie.Need-array-write-places-5
+array-write-places-5 c = search needs
+
+array-write-places-6 : tie.Need-array-write-places-6
+array-write-places-6 c = search needs
+
+returns : tie.Need-returns
+unfolding placesOf
+returns c =
+    let args = c .before .before .before .before .before .before .before .args in
+    let pre = c .before .before .before .before .before .before .before .pre in
+    let copy = c .before .before .before .before .copy in
+    let s = joined (now (args .colours)) (args .c) in
+    ap (λ (l : List ℕ). sets l 768 (tailOf s)) (copy .ensures) ∙ stored-behind (now (args .colours)) (replicate 774 0) (tailOf s) 768 pre refl
+
+pub places-of-spec : {M : Type 1} → statement M
+places-of-spec =
+    tie.close
+    (tie.spec
+    slice-aggregate-copy
+    copy-requires
+    array-write-places
+    array-write-places-2
+    array-write-places-3
+    array-write-places-4
+    array-write-places-5
+    array-write-places-6
+    returns)

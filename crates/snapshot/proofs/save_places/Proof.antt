@@ -1,0 +1,64 @@
+use Rattle.snapshot.proofs.RoundTrip.{resaved-from}
+-- `save_places` meets its contract.
+-- Assumes nothing.
+use Rattle.snapshot.proofs.Stores.{snapshot-long, values-short}
+use denote.Ref.{now}
+use lib.ListN.{replicate}
+use native.Mathlib.Omega.{arith}
+use mathlib.Core.Path.{_∙_}
+use borrow.Author.Needs.{needs}
+use Rattle.snapshot.proofs.save_places.Statement.{statement}
+use Rattle.snapshot.proofs.save_places.Tie as tie
+
+slice-aggregate-encode : tie.Need-slice-aggregate-encode
+slice-aggregate-encode c = search needs
+
+encode-requires : tie.Need-encode-requires
+encode-requires c κs = search needs
+
+clear-requires : tie.Need-clear-requires
+clear-requires c κs = search needs
+
+sub-decode : tie.Need-sub-decode
+sub-decode c = search needs
+
+part-decode-start : tie.Need-part-decode-start
+part-decode-start c = search needs
+
+part-decode-end : tie.Need-part-decode-end
+part-decode-end c =
+    let args = c .before .before .before .before .before .before .before .before .before .before .before .args in
+    let encode = c .before .before .before .before .before .before .encode in
+    let pre = c .before .before .before .before .before .before .before .before .before .before .before .pre in
+    let l = now (args .places) in
+    omega (arith, encode .ensures .0, snapshot-long (args .chip) l, values-short l, pre .1)
+
+decode-requires : tie.Need-decode-requires
+decode-requires c κs = search needs
+
+same-length : tie.Need-same-length
+same-length c = search needs
+
+returns : tie.Need-returns
+returns c =
+    let decode = c .before .before .decode in
+    let args = c .before .before .before .before .before .before .before .before .before .before .before .before .before .before .before .before .args in
+    let encode = c .before .before .before .before .before .before .before .before .before .before .before .encode in
+    let clear = c .before .before .before .before .before .before .before .before .clear in
+    let pre = c .before .before .before .before .before .before .before .before .before .before .before .before .before .before .before .before .pre in
+    decode .ensures .left
+    ∙ resaved-from (args .chip) (encode .result) (now (args .largest)) (now (args .places)) (replicate 2370 0) (encode .last .1 .1 .0) (clear .last .0) (pre .0) (encode .ensures .0) (encode .ensures .1) (clear .ensures)
+
+pub save-places-spec : {M : Type 1} → statement M
+save-places-spec =
+    tie.close
+    (tie.spec
+    slice-aggregate-encode
+    encode-requires
+    clear-requires
+    sub-decode
+    part-decode-start
+    part-decode-end
+    decode-requires
+    same-length
+    returns)

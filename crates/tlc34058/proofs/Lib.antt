@@ -1,0 +1,7 @@
+-- Laws of a TLC34058. Crates above cite Sound, Saved and Instance.
+pub mod Sound
+pub mod Saved
+pub mod Instance
+mod Events
+mod Pixels
+mod Selected

@@ -1,0 +1,90 @@
+-- A state whose values are at most their places' largest, part by part, and the events that keep it so.
+-- Assumes nothing.
+use Prim.Native.Nat.{ℕ, _+_, _*_, _≤_, _%_}
+use mathlib.Core.Path.{_≡_, refl, _∙_}
+use mathlib.Core.Bool.{Bool, true, false}
+use mathlib.Core.List.{List}
+use native.Mathlib.Omega.{arith}
+use lib.Dec.{eqb}
+use lib.ListN.{length, getD}
+use Rattle.laws.proofs.Tests.{cond-all}
+use Rattle.event.specs.Event.{Raw, operandAt}
+use Rattle.colour.specs.Colour.{Cursor}
+use Rattle.colour.proofs.Laws as colour
+use Rattle.tlc34058.specs.State.{Registers, Port, Display, State}
+use Rattle.tlc34058.specs.Port.{Access, refuse, setAddress, setColour, setRegister, getAddress, getColour, getRegister, accessRefusal, select, request, withRegister, next}
+use Rattle.tlc34058.specs.Tick.{turn}
+
+pub record SoundRegisters (r : Registers) : Type 0 where
+  pub readMask : r .readMask ≤ 255
+  pub blinkMask : r .blinkMask ≤ 255
+  pub command : r .command ≤ 255
+  pub test : r .test ≤ 255
+
+pub record SoundPort (p : Port) : Type 0 where
+  pub long : length (p .colours) ≡ 780
+  pub small : (i : ℕ) → getD (p .colours) i 0 ≤ 255
+  pub cursor : colour.Sound 255 (p .cursor)
+  pub registers : SoundRegisters (p .registers)
+
+pub record Sound (s : State) : Type 0 where
+  pub port : SoundPort (s .port)
+  pub blink : s .display .blink ≤ 127
+
+-- the byte that an access stores is a byte
+abbrev pub Byte : Access → Type 0
+Byte (refuse n) = Unit {0}
+Byte (setAddress b) = b ≤ 255
+Byte (setColour e b) = b ≤ 255
+Byte (setRegister a b) = b ≤ 255
+Byte getAddress = Unit {0}
+Byte (getColour e) = Unit {0}
+Byte (getRegister a) = Unit {0}
+
+-- what holds of every access that a selector can come to
+pub select-all : (P : Access → Type 0) (n a : ℕ) (x : Access) (f g : ℕ → Access) → ((k : ℕ) → P (refuse k)) → P x → ((k : ℕ) → P (f k)) → ((k : ℕ) → P (g k)) → P (select n a x f g)
+unfolding select
+select-all P n a x f g r hx hf hg =
+    cond-all P (eqb (accessRefusal n a) 0) _ _
+    (cond-all P (eqb n 0) _ _ hx
+    (cond-all P (eqb n 1) _ _ (hf a)
+    (cond-all P (eqb n 3) _ _ (hf (256 + a)) (hg a))))
+    (r (accessRefusal n a))
+
+pub request-byte : (p : Port) (e : Raw) → operandAt e 1 ≤ 255 → Byte (request p e)
+unfolding request
+request-byte p e h =
+    cond-all Byte (eqb (e .kind) 0) _ _
+    (select-all Byte (operandAt e 0) (p .cursor .address) _ _ _ (λ k. tt) h (λ k. h) (λ k. h))
+    (select-all Byte (operandAt e 0) (p .cursor .address) _ _ _ (λ k. tt) tt (λ k. tt) (λ k. tt))
+
+sound-register : (r : Registers) (a b : ℕ) → b ≤ 255 → SoundRegisters r → SoundRegisters (withRegister r a b)
+unfolding withRegister
+sound-register r a b h v =
+    cond-all SoundRegisters (eqb a 4) _ _ (record { readMask = h; blinkMask = v .blinkMask; command = v .command; test = v .test })
+    (cond-all SoundRegisters (eqb a 5) _ _ (record { readMask = v .readMask; blinkMask = h; command = v .command; test = v .test })
+    (cond-all SoundRegisters (eqb a 6) _ _ (record { readMask = v .readMask; blinkMask = v .blinkMask; command = h; test = v .test })
+    (record { readMask = v .readMask; blinkMask = v .blinkMask; command = v .command; test = h })))
+
+-- another cursor
+with-cursor : (p : Port) (c : Cursor) → SoundPort p → colour.Sound 255 c → SoundPort (record { colours = p .colours; cursor = c; registers = p .registers })
+with-cursor p c v h = record { long = v .long; small = v .small; cursor = h; registers = v .registers }
+
+pub sound-next : (p : Port) (x : Access) → Byte x → SoundPort p → SoundPort (next p x)
+sound-next p (refuse n) h v = v
+sound-next p (setAddress b) h v = with-cursor p _ v (colour.sound-pointed 255 (p .cursor) b h (v .cursor))
+sound-next p (setColour e b) h v = record {
+  long = colour.stored-long (p .colours) (p .cursor) e b ∙ v .long;
+  small = colour.stored-small (p .colours) (p .cursor) e b 255 h (v .cursor) (v .small);
+  cursor = colour.sound-onward 255 _ (colour.sound-held 255 (p .cursor) b h (v .cursor));
+  registers = v .registers;
+}
+sound-next p (setRegister a b) h v = record { long = v .long; small = v .small; cursor = v .cursor; registers = sound-register (p .registers) a b h (v .registers) }
+sound-next p getAddress h v = with-cursor p _ v (colour.sound-pointed 255 (p .cursor) (p .cursor .address) (v .cursor .address) (v .cursor))
+sound-next p (getColour e) h v = with-cursor p _ v (colour.sound-onward 255 (p .cursor) (v .cursor))
+sound-next p (getRegister a) h v = v
+
+pub sound-turn : (d : Display) (e : Raw) → d .blink ≤ 127 → turn d e .blink ≤ 127
+sound-turn d e h =
+    let small : (d .blink + 1) % 128 ≤ 127 = omega arith in
+    cond-all (λ x. x .blink ≤ 127) (eqb (e .kind) 2) d (record { blink = (d .blink + 1) % 128 }) h small

@@ -1,0 +1,88 @@
+-- Document 01's "Chip 1 port": writes and reads through C1 and C0.
+-- Assumes nothing.
+use Prim.Native.Nat.{ℕ, _+_}
+use mathlib.Core.Bool.{Bool, true, false, cond}
+use mathlib.Core.List.{List}
+use lib.Dec.{ltb, eqb}
+use Rattle.event.specs.Event.{Raw, operandAt, refused, gave, done}
+use Rattle.colour.specs.Colour.{pointed, onward, held, stored, component}
+use Rattle.tlc34058.specs.State.{Registers, Port}
+
+-- What an access asks for, as the selector and the address decide it. A colour is that of an entry: palette entries are 0 to 255, overlays 256 to 259.
+pub data Access : Type 0 where
+  refuse : ℕ → Access
+  setAddress : ℕ → Access
+  setColour : ℕ → ℕ → Access
+  setRegister : ℕ → ℕ → Access
+  getAddress : Access
+  getColour : ℕ → Access
+  getRegister : ℕ → Access
+
+-- 1: a selector over 3; 2: an overlay access with the address over 3, or a control access with the address outside 4 to 7
+unfoldable pub accessRefusal : ℕ → ℕ → ℕ
+accessRefusal selector address =
+    cond (ltb 3 selector) 1
+    (cond (eqb selector 3) (cond (ltb 3 address) 2 0)
+    (cond (eqb selector 2) (cond (ltb address 4) 2 (cond (ltb 7 address) 2 0))
+    0))
+
+-- the selector is 2 × C1 + C0: 0 address, 1 palette colour, 2 control register, 3 overlay colour
+unfoldable pub select : ℕ → ℕ → Access → (ℕ → Access) → (ℕ → Access) → Access
+select selector address atAddress atColour atRegister =
+    cond (eqb (accessRefusal selector address) 0)
+    (cond (eqb selector 0) atAddress
+    (cond (eqb selector 1) (atColour address)
+    (cond (eqb selector 3) (atColour (256 + address))
+    (atRegister address))))
+    (refuse (accessRefusal selector address))
+
+abbrev pub writing : ℕ → ℕ → ℕ → Access
+writing address selector byte = select selector address (setAddress byte) (λ n. setColour n byte) (λ n. setRegister n byte)
+
+abbrev pub reading : ℕ → ℕ → Access
+reading address selector = select selector address getAddress getColour getRegister
+
+-- kind 0 writes operand byte 1; kind 1 reads
+unfoldable pub request : Port → Raw → Access
+request p e = cond (eqb (e .kind) 0) (writing (p .cursor .address) (operandAt e 0) (operandAt e 1)) (reading (p .cursor .address) (operandAt e 0))
+
+-- the register at an address from 04h to 07h
+unfoldable pub register : Registers → ℕ → ℕ
+register r a = cond (eqb a 4) (r .readMask) (cond (eqb a 5) (r .blinkMask) (cond (eqb a 6) (r .command) (r .test)))
+
+unfoldable pub withRegister : Registers → ℕ → ℕ → Registers
+withRegister r a b =
+    cond (eqb a 4) (record { readMask = b; blinkMask = r .blinkMask; command = r .command; test = r .test })
+    (cond (eqb a 5) (record { readMask = r .readMask; blinkMask = b; command = r .command; test = r .test })
+    (cond (eqb a 6) (record { readMask = r .readMask; blinkMask = r .blinkMask; command = b; test = r .test })
+    (record { readMask = r .readMask; blinkMask = r .blinkMask; command = r .command; test = b })))
+
+-- what an access leaves
+abbrev pub next : Port → Access → Port
+next p (refuse n) = p
+next p (setAddress b) = record { colours = p .colours; cursor = pointed (p .cursor) b; registers = p .registers }
+next p (setColour e b) = record { colours = stored (p .colours) (p .cursor) e b; cursor = onward (held (p .cursor) b); registers = p .registers }
+next p (setRegister a b) = record { colours = p .colours; cursor = p .cursor; registers = withRegister (p .registers) a b }
+next p getAddress = record { colours = p .colours; cursor = pointed (p .cursor) (p .cursor .address); registers = p .registers }
+next p (getColour e) = record { colours = p .colours; cursor = onward (p .cursor); registers = p .registers }
+next p (getRegister a) = p
+
+-- what an access answers
+abbrev pub reply : Port → Access → List ℕ
+reply p (refuse n) = refused n
+reply p (setAddress b) = done
+reply p (setColour e b) = done
+reply p (setRegister a b) = done
+reply p getAddress = gave (p .cursor .address)
+reply p (getColour e) = gave (component (p .colours) (p .cursor) e)
+reply p (getRegister a) = gave (register (p .registers) a)
+
+-- document 01's painting access: an unrefused colour write made at position 2, or an unrefused control write at 04h, 05h or 06h
+abbrev pub altersDisplay : Port → Access → Bool
+altersDisplay p (refuse n) = false
+altersDisplay p (setAddress b) = false
+altersDisplay p (setColour e b) = eqb (p .cursor .position) 2
+altersDisplay p (setRegister a b) = ltb a 7
+altersDisplay p getAddress = false
+altersDisplay p (getColour e) = false
+altersDisplay p (getRegister a) = false

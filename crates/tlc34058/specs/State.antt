@@ -1,0 +1,39 @@
+-- The state of a TLC34058: what accesses move, and what display events move.
+-- Assumes nothing.
+use Prim.Native.Nat.{ℕ}
+use mathlib.Core.List.{List}
+use lib.ListN.{replicate}
+use Rattle.colour.specs.Colour.{Cursor}
+
+-- the control registers at addresses 04h to 07h
+pub record Registers : Type 0 where
+  pub readMask : ℕ
+  pub blinkMask : ℕ
+  pub command : ℕ
+  pub test : ℕ
+
+-- what accesses move: three components of each of 256 palette entries and, behind them, 4 overlays; the counters and held bytes; the registers
+pub record Port : Type 0 where
+  pub colours : List ℕ
+  pub cursor : Cursor
+  pub registers : Registers
+
+-- what display events move
+pub record Display : Type 0 where
+  pub blink : ℕ
+
+pub record State : Type 0 where
+  pub port : Port
+  pub display : Display
+
+-- a fresh chip has 0 in all places
+abbrev pub fresh : State
+fresh =
+    record {
+      port = record {
+        colours = replicate 780 0;
+        cursor = record { address = 0; position = 0; heldRed = 0; heldGreen = 0 };
+        registers = record { readMask = 0; blinkMask = 0; command = 0; test = 0 };
+      };
+      display = record { blink = 0 };
+    }

@@ -1,0 +1,40 @@
+-- The state that the structs of the code stand for.
+-- Assumes nothing.
+use Prim.Native.Nat.{ℕ}
+use mathlib.Core.Path.{_≡_}
+use mathlib.Core.List.{List}
+use Rattle.event.specs.Event.{Played}
+use Rattle.colour.specs.Struct.{cursorOf}
+use Rattle.tlc34058.specs.State.{Registers, Port, State}
+use Rattle.tlc34058.specs.Port.{Access, next, reply}
+use Rattle.tlc34058.specs.declared.Control as control
+use Rattle.tlc34058.specs.declared.Tlc34058 as code
+use Rattle.tlc34058.specs.declared.Turn as turn
+
+abbrev pub registersOf : control.Control → Registers
+registersOf c = record { readMask = c .«read_mask»; blinkMask = c .«blink_mask»; command = c .command; test = c .test }
+
+-- the colours, and all the rest
+abbrev pub joined : List ℕ → control.Control → State
+joined colours c = record {
+  port = record { colours = colours; cursor = cursorOf (c .cursor); registers = registersOf c };
+  display = record { blink = c .blink };
+}
+
+abbrev pub stateOf : code.Tlc34058 → State
+stateOf s = record {
+  port = record {
+    colours = s .colours;
+    cursor = record { address = s .address .0; position = s .position .0; heldRed = s .«held_red»; heldGreen = s .«held_green» };
+    registers = record { readMask = s .«read_mask»; blinkMask = s .«blink_mask»; command = s .command; test = s .test };
+  };
+  display = record { blink = s .blink };
+}
+
+abbrev pub playedOf : turn.Turn → Played State
+playedOf t = record { answer = t .answer; state = stateOf (t .state) }
+
+-- what an access leaves and answers
+pub record Accessed (before after : State) (x : Access) (part : List ℕ) : Type 0 where
+  pub state : after ≡ record { port = next (before .port) x; display = before .display }
+  pub answer : part ≡ reply (before .port) x

@@ -1,0 +1,74 @@
+-- Document 01's "Chip 1 tick" and the vertical period.
+-- Assumes nothing.
+use Prim.Native.Nat.{ℕ, zero, suc, _+_, _-_, _*_, _%_}
+use mathlib.Core.Bool.{Bool, true, false, not, cond, _&&_, _||_}
+use mathlib.Core.List.{List, [], _∷_, _++_}
+use lib.Dec.{ltb, eqb}
+use lib.ListN.{getD}
+use lib.Bits.{bitAnd}
+use Rattle.event.specs.Event.{Raw, operandAt, bit, refused, done}
+use Rattle.tlc34058.specs.State.{Registers, Port, Display}
+
+-- CR7 0: four pixels A to D; CR7 1: five
+abbrev pub pixelCount : ℕ → ℕ
+pixelCount command = cond (bit 7 command) 5 4
+
+-- CR5, CR4 and the blink count n: 00 n mod 64 < 16; 01 n mod 32 < 16; 10 n mod 64 < 32; 11 n < 64
+unfoldable pub blinkOn : ℕ → ℕ → Bool
+blinkOn command n =
+    cond (bit 5 command)
+    (cond (bit 4 command) (ltb n 64) (ltb (n % 64) 32))
+    (cond (bit 4 command) (ltb (n % 32) 16) (ltb (n % 64) 16))
+
+-- pixel bits with a 0 in the read mask become 0; with blink off, those with a 1 in the blink mask too
+unfoldable pub maskedPixel : Registers → Bool → ℕ → ℕ
+maskedPixel r on pixel = cond on (bitAnd pixel (r .readMask)) (bitAnd (bitAnd pixel (r .readMask)) (255 - r .blinkMask))
+
+-- an overlay bit: 0 if its enable (CR0, CR1) is 0, or if its blink bit (CR2, CR3) is 1 and blink is off
+unfoldable pub overlayBit : Bool → Bool → Bool → Bool → ℕ
+overlayBit enable blinks on given = cond ((given && enable) && (on || not blinks)) 1 0
+
+-- the entry that a pixel shows: with k = 2 × OL1 + OL0, the palette entry at the pixel if k is 0 and CR6 is 1, otherwise overlay k
+unfoldable pub entryOf : Registers → Bool → ℕ → Bool → Bool → ℕ
+entryOf r on pixel ol0 ol1 =
+    let k : ℕ = 2 * overlayBit (bit 1 (r .command)) (bit 3 (r .command)) on ol1 + overlayBit (bit 0 (r .command)) (bit 2 (r .command)) on ol0 in
+    cond (eqb k 0 && bit 6 (r .command)) (maskedPixel r on pixel) (256 + k)
+
+-- component k of a pixel's entry; 0 where the pixel isn't shown
+unfoldable pub codeOf : List ℕ → Registers → Bool → Bool → ℕ → Bool → Bool → ℕ → ℕ
+codeOf colours r on shown pixel ol0 ol1 k = cond shown (getD colours (3 * entryOf r on pixel ol0 ol1 + k) 0) 0
+
+-- the operand: pixels A to E; the OL0 bits, A in bit 0 up to E in bit 4; the OL1 bits alike; levels (bit 0 BLK, bit 1 SYNC). The first n pixels are shown.
+abbrev pub codeAt : List ℕ → Registers → Bool → ℕ → List ℕ → ℕ → ℕ → ℕ
+codeAt colours r on n o i k = codeOf colours r on (ltb i n) (getD o i 0) (bit i (getD o 5 0)) (bit i (getD o 6 0)) k
+
+-- red, green and blue of each pixel below n
+unfoldable pub codesUpTo : (ℕ → ℕ → ℕ) → ℕ → List ℕ
+codesUpTo f zero = []
+codesUpTo f (suc n) = codesUpTo f n ++ f n 0 ∷ f n 1 ∷ f n 2 ∷ []
+
+-- with BLK 0 no pixel is shown; the count remains
+abbrev pub shownPixels : ℕ → ℕ → ℕ
+shownPixels command levels = cond (bit 0 levels) (pixelCount command) 0
+
+-- 4: bits 5 to 7 of the overlay bytes, or bits 2 to 7 of the levels
+unfoldable pub undefinedBits : List ℕ → Bool
+undefinedBits o = ltb 31 (getD o 5 0) || (ltb 31 (getD o 6 0) || ltb 3 (getD o 7 0))
+
+-- all pixels of a tick use the state as it is then. Byte 1 is the pixel count, byte 2 the levels, and the codes of five pixels fill the answer.
+unfoldable pub tick : Port → Display → List ℕ → List ℕ
+tick p d o =
+    cond (undefinedBits o) (refused 4)
+    (0 ∷ pixelCount (p .registers .command) ∷ getD o 7 0
+    ∷ codesUpTo (codeAt (p .colours) (p .registers) (blinkOn (p .registers .command) (d .blink)) (shownPixels (p .registers .command) (getD o 7 0)) o) 5)
+
+-- the blink count, 0 to 127, moves on at each vertical period, 127 to 0
+abbrev pub later : Display → Display
+later d = record { blink = (d .blink + 1) % 128 }
+
+-- kind 2 is a tick, kind 3 a vertical period
+abbrev pub turn : Display → Raw → Display
+turn d e = cond (eqb (e .kind) 2) d (later d)
+
+abbrev pub show : Port → Display → Raw → List ℕ
+show p d e = cond (eqb (e .kind) 2) (tick p d (e .operand)) done

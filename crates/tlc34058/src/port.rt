@@ -1,0 +1,165 @@
+// Writes and reads through C1 and C0.
+ghost use mathlib.Core.Path.{_≡_};
+ghost use mathlib.Core.List.{List};
+ghost use Prim.Native.Nat.{ℕ, _≤_};
+ghost use lib.ListN.{length};
+ghost use Rattle.event.specs.Event.{gave};
+ghost use Rattle.colour.specs.Struct.{cursorOf};
+ghost use Rattle.tlc34058.specs.Port.{accessRefusal, writing, reading, next, reply, register as registerAt, withRegister};
+ghost use Rattle.tlc34058.specs.Struct.{registersOf, joined, Accessed};
+use crate::Control;
+use colour::Cursor;
+use counters::Address;
+
+// 1 for a selector over 3; 2 for an overlay address over 3 or a control address outside 4 to 7; or 0.
+fn access_refusal(selector: u8, address: u8) -> u8
+    ensures { λ r. ⌜ r ≡ accessRefusal selector address ⌝ }
+{
+    if 3 < selector {
+        return 1;
+    }
+    if selector == 3 {
+        if 3 < address {
+            return 2;
+        }
+        return 0;
+    }
+    if selector == 2 {
+        if address < 4 {
+            return 2;
+        }
+        if 7 < address {
+            return 2;
+        }
+        return 0;
+    }
+    0
+}
+
+fn with_cursor(c: Control, cursor: Cursor) -> Control
+    ensures { λ r. ⌜ (cursorOf (r .cursor) ≡ cursorOf cursor) × (registersOf r ≡ registersOf c) × (r .blink ≡ c .blink) ⌝ }
+{
+    Control {
+        cursor,
+        read_mask: c.read_mask,
+        blink_mask: c.blink_mask,
+        command: c.command,
+        test: c.test,
+        blink: c.blink,
+    }
+}
+
+// The register at an address from 04h to 07h.
+fn register(c: Control, address: u8) -> u8
+    ensures { λ r. ⌜ r ≡ registerAt (registersOf c) address ⌝ }
+{
+    if address == 4 {
+        return c.read_mask;
+    }
+    if address == 5 {
+        return c.blink_mask;
+    }
+    if address == 6 {
+        return c.command;
+    }
+    c.test
+}
+
+fn set_register(c: Control, address: u8, byte: u8) -> Control
+    ensures { λ r. ⌜ (cursorOf (r .cursor) ≡ cursorOf (c .cursor)) × (registersOf r ≡ withRegister (registersOf c) address byte) × (r .blink ≡ c .blink) ⌝ }
+{
+    let mut next = c;
+    if address == 4 {
+        next.read_mask = byte;
+        return next;
+    }
+    if address == 5 {
+        next.blink_mask = byte;
+        return next;
+    }
+    if address == 6 {
+        next.command = byte;
+        return next;
+    }
+    next.test = byte;
+    next
+}
+
+// A write's answer has its refusal and nothing else.
+pub fn write(colours: &mut [u8], c: Control, selector: u8, byte: u8, part: &mut [u8]) -> Control
+    requires { ⌜ (length (now colours) ≡ 780) × (c .cursor .position .0 ≤ 2) × (length (now part) ≡ 18) ⌝ }
+    ensures { λ r. ⌜ Accessed (joined (now (colours .entry)) c) (joined (now (colours .exit)) r) (writing (c .cursor .address .0) selector byte) (now (part .exit)) ⌝ }
+{
+    let cursor = c.cursor;
+    let address = cursor.address;
+    let at = address.0;
+    let refusal = access_refusal(selector, at);
+    event::put_answer(part, refusal, 0);
+    if refusal != 0 {
+        return c;
+    }
+    if selector == 0 {
+        return with_cursor(c, cursor.point(Address(byte)));
+    }
+    if selector == 1 {
+        return with_cursor(c, cursor.write(colours, colour::wide(at), byte));
+    }
+    if selector == 3 {
+        return with_cursor(c, cursor.write(colours, 256 + colour::wide(at), byte));
+    }
+    set_register(c, at, byte)
+}
+
+// The byte that a read gives where it isn't refused.
+fn value(colours: &[u8], c: Control, selector: u8) -> u8
+    requires { ⌜ (length (now colours) ≡ 780) × (c .cursor .position .0 ≤ 2) × (accessRefusal selector (c .cursor .address .0) ≡ 0) ⌝ }
+    ensures { λ r. ⌜ gave r ≡ reply (joined (now (colours .entry)) c .port) (reading (c .cursor .address .0) selector) ⌝ }
+{
+    let cursor = c.cursor;
+    let address = cursor.address;
+    let at = address.0;
+    if selector == 0 {
+        return at;
+    }
+    if selector == 1 {
+        return cursor.read(colours, colour::wide(at));
+    }
+    if selector == 3 {
+        return cursor.read(colours, 256 + colour::wide(at));
+    }
+    register(c, at)
+}
+
+// What a read leaves where it isn't refused: the position is 0 after an address read, and moves on after a colour read.
+fn after_read(c: Control, selector: u8) -> Control
+    requires { ⌜ accessRefusal selector (c .cursor .address .0) ≡ 0 ⌝ }
+    ensures { λ r. ⌜ ((l : List ℕ) → joined l r ≡ record { port = next (joined l c .port) (reading (c .cursor .address .0) selector); display = joined l c .display }) ⌝ }
+{
+    let cursor = c.cursor;
+    let address = cursor.address;
+    if selector == 0 {
+        return with_cursor(c, cursor.point(address));
+    }
+    if selector == 1 {
+        return with_cursor(c, cursor.next());
+    }
+    if selector == 3 {
+        return with_cursor(c, cursor.next());
+    }
+    c
+}
+
+pub fn read(colours: &[u8], c: Control, selector: u8, part: &mut [u8]) -> Control
+    requires { ⌜ (length (now colours) ≡ 780) × (c .cursor .position .0 ≤ 2) × (length (now part) ≡ 18) ⌝ }
+    ensures { λ r. ⌜ Accessed (joined (now (colours .entry)) c) (joined (now (colours .entry)) r) (reading (c .cursor .address .0) selector) (now (part .exit)) ⌝ }
+{
+    let cursor = c.cursor;
+    let address = cursor.address;
+    let refusal = access_refusal(selector, address.0);
+    if refusal != 0 {
+        event::put_answer(part, refusal, 0);
+        return c;
+    }
+    event::put_answer(part, 0, value(colours, c, selector));
+    after_read(c, selector)
+}

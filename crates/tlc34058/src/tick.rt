@@ -1,0 +1,184 @@
+// A tick: the selection of each pixel's entry, and the codes written straight into the answer's part.
+ghost use mathlib.Core.Path.{_≡_};
+ghost use mathlib.Core.List.{_++_};
+ghost use Prim.Native.Nat.{_+_, _*_, _≤_, _<_};
+ghost use lib.ListN.{length, take, getD};
+ghost use Rattle.event.specs.Event.{bit};
+ghost use Rattle.tlc34058.specs.Tick.{pixelCount, blinkOn, maskedPixel, overlayBit, entryOf, codeOf, codeAt, codesUpTo, shownPixels, undefinedBits, tick};
+ghost use Rattle.tlc34058.specs.Struct.{registersOf, joined};
+ghost use Rattle.tlc34058.specs.Codes.{CodesAre};
+use crate::Control;
+
+// The three codes of a pixel.
+struct Codes {
+    red: u8,
+    green: u8,
+    blue: u8,
+}
+
+// The blink phase: whether what blinks is shown.
+fn blink_on(command: u8, n: u8) -> bool
+    ensures { λ r. ⌜ r ≡ blinkOn command n ⌝ }
+{
+    if command / 32 % 2 == 1 {
+        if command / 16 % 2 == 1 {
+            return n < 64;
+        }
+        return n % 64 < 32;
+    }
+    if command / 16 % 2 == 1 {
+        return n % 32 < 16;
+    }
+    n % 64 < 16
+}
+
+// The pixel bits that the read mask and, with blink off, the blink mask leave.
+fn masked_pixel(c: Control, on: bool, pixel: u8) -> u8
+    ensures { λ r. ⌜ r ≡ maskedPixel (registersOf c) on pixel ⌝ }
+{
+    let seen = colour::masked(pixel, c.read_mask);
+    if on {
+        return seen;
+    }
+    colour::masked(seen, 255 - c.blink_mask)
+}
+
+// An overlay bit that its enable and its blink bit leave.
+fn overlay_bit(enable: bool, blinks: bool, on: bool, given: bool) -> u8
+    ensures { λ r. ⌜ (r ≡ overlayBit enable blinks on given) × (r ≤ 1) ⌝ }
+{
+    if given {
+        if enable {
+            if on {
+                return 1;
+            }
+            if blinks {
+                return 0;
+            }
+            return 1;
+        }
+        return 0;
+    }
+    0
+}
+
+// The entry that a pixel shows.
+fn entry_of(c: Control, on: bool, pixel: u8, ol0: bool, ol1: bool) -> usize
+    ensures { λ r. ⌜ (r ≡ entryOf (registersOf c) on pixel ol0 ol1) × (r < 260) ⌝ }
+{
+    let command = c.command;
+    let b0 = overlay_bit(command % 2 == 1, command / 4 % 2 == 1, on, ol0);
+    let b1 = overlay_bit(command / 2 % 2 == 1, command / 8 % 2 == 1, on, ol1);
+    let k = 2 * b1 + b0;
+    if k == 0 {
+        if command / 64 % 2 == 1 {
+            return colour::wide(masked_pixel(c, on, pixel));
+        }
+        return 256;
+    }
+    256 + colour::wide(k)
+}
+
+// The codes of a pixel, black where it isn't shown.
+fn codes_of(
+    colours: &[u8],
+    c: Control,
+    on: bool,
+    shown: bool,
+    pixel: u8,
+    ol0: bool,
+    ol1: bool,
+) -> Codes
+    requires { ⌜ length (now colours) ≡ 780 ⌝ }
+    ensures { λ r. ⌜ CodesAre (codeOf (now (colours .entry)) (registersOf c) on shown pixel ol0 ol1) r ⌝ }
+{
+    if shown {
+        let from = 3 * entry_of(c, on, pixel, ol0, ol1);
+        return Codes {
+            red: colours[from],
+            green: colours[from + 1],
+            blue: colours[from + 2],
+        };
+    }
+    Codes {
+        red: 0,
+        green: 0,
+        blue: 0,
+    }
+}
+
+// Writes the codes of five pixels behind the first three bytes, n of them shown. The overlay bytes are halved at each turn.
+fn put_pixels(part: &mut [u8], colours: &[u8], c: Control, operand: [u8; 8], on: bool, n: usize)
+    requires { ⌜ (length (now part) ≡ 18) × (length (now colours) ≡ 780) ⌝ }
+    ensures { λ _. ⌜ now (part .exit) ≡ take 3 (now (part .entry)) ++ codesUpTo (codeAt (now (colours .entry)) (registersOf c) on n operand) 5 ⌝ }
+{
+    let mut ol0 = operand[5];
+    let mut ol1 = operand[6];
+    let mut i: usize = 0;
+    while i < 5 {
+        let codes = codes_of(
+            colours,
+            c,
+            on,
+            i < n,
+            operand[i],
+            ol0 % 2 == 1,
+            ol1 % 2 == 1,
+        );
+        let at = 3 + 3 * i;
+        part[at] = codes.red;
+        part[at + 1] = codes.green;
+        part[at + 2] = codes.blue;
+        ol0 = ol0 / 2;
+        ol1 = ol1 / 2;
+        i += 1;
+    }
+}
+
+fn undefined_bits(operand: [u8; 8]) -> bool
+    ensures { λ r. ⌜ r ≡ undefinedBits operand ⌝ }
+{
+    if 31 < operand[5] {
+        return true;
+    }
+    if 31 < operand[6] {
+        return true;
+    }
+    3 < operand[7]
+}
+
+fn pixel_count(command: u8) -> u8
+    ensures { λ r. ⌜ r ≡ pixelCount command ⌝ }
+{
+    if command / 128 % 2 == 1 {
+        return 5;
+    }
+    4
+}
+
+// How many pixels show their colours: none where blanked.
+fn shown_pixels(command: u8, levels: u8) -> usize
+    ensures { λ r. ⌜ r ≡ shownPixels command levels ⌝ }
+{
+    if levels % 2 == 1 {
+        return colour::wide(pixel_count(command));
+    }
+    0
+}
+
+// A tick's answer over an event's part of the answer buffer.
+pub fn put_tick(part: &mut [u8], colours: &[u8], c: Control, operand: [u8; 8])
+    requires { ⌜ (length (now part) ≡ 18) × (length (now colours) ≡ 780) ⌝ }
+    ensures { λ _. ⌜ now (part .exit) ≡ tick (joined (now (colours .entry)) c .port) (joined (now (colours .entry)) c .display) operand ⌝ }
+{
+    if undefined_bits(operand) {
+        event::put_answer(part, 4, 0);
+        return;
+    }
+    part[0] = 0;
+    part[1] = pixel_count(c.command);
+    part[2] = operand[7];
+    let on = blink_on(c.command, c.blink);
+    let n = shown_pixels(c.command, operand[7]);
+    put_pixels(part, colours, c, operand, on, n);
+}

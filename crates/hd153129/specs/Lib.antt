@@ -5,3 +5,4 @@ pub mod Tick
 pub mod Places
 pub mod Machine
 pub mod Struct
+pub mod Painting

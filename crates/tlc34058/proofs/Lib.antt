@@ -2,6 +2,7 @@
 pub mod Sound
 pub mod Saved
 pub mod Instance
+pub mod Painting
 mod Events
 mod Pixels
 mod Selected

@@ -6,3 +6,4 @@ pub mod Places
 pub mod Machine
 pub mod Struct
 pub mod Codes
+pub mod Painting

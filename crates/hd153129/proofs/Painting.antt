@@ -1,0 +1,41 @@
+-- An access alters the display exactly when document 01's disjunction holds.
+-- Assumes nothing.
+use Prim.Native.Nat.{ℕ, zero, suc}
+use mathlib.Core.Path.{_≡_, refl, sym, _∙_}
+use mathlib.Core.Bool.{Bool, true, false, cond, or-false}
+use native.Mathlib.Omega.{arith}
+use borrow.Author.Tests.{ne-eqb, lt-ltb}
+use lib.Dec.{eqb}
+use Rattle.laws.proofs.Tests.{cond-all}
+use Rattle.event.specs.Event.{Raw, operandAt}
+use Rattle.hd153129.specs.State.{State}
+use Rattle.hd153129.specs.Port.{Access, accessRefusal, requestWrite, requestRead, request, altersDisplay}
+use Rattle.hd153129.specs.Painting.{paints}
+
+writes : (s : State) (n b : ℕ) → altersDisplay s (requestWrite (s .direction) n b) ≡ paints 0 n (s .direction) (s .cursor .position)
+unfolding requestWrite accessRefusal
+writes s zero b = refl
+writes s (suc zero) b = colours (eqb (s .direction) 1) refl
+  where
+    colours : (c : Bool) → eqb (s .direction) 1 ≡ c → altersDisplay s (requestWrite (s .direction) 1 b) ≡ paints 0 1 (s .direction) (s .cursor .position)
+    colours true e = simp e
+    colours false e = simp (e, or-false)
+writes s (suc (suc zero)) b = refl
+writes s (suc (suc (suc zero))) b = refl
+writes s (suc (suc (suc (suc k)))) b =
+    let n = suc (suc (suc (suc k))) in
+    simp (lt-ltb 3 n (omega arith), ne-eqb n 1 (λ e. omega arith), ne-eqb n 2 (λ e. omega arith))
+
+reads : (s : State) (n : ℕ) → altersDisplay s (requestRead (s .direction) n) ≡ false
+unfolding requestRead
+reads s n =
+    let Not : Access → Type 0 = λ x. altersDisplay s x ≡ false in
+    cond-all Not (eqb (accessRefusal n (s .direction) 0) 0) _ _ (cond-all Not (eqb n 1) _ _ refl (cond-all Not (eqb n 2) _ _ refl refl)) refl
+
+pub alters-exactly : (s : State) (e : Raw) → altersDisplay s (request s e) ≡ paints (e .kind) (operandAt e 0) (s .direction) (s .cursor .position)
+unfolding request
+alters-exactly s e = by-kind (eqb (e .kind) 0) refl
+  where
+    by-kind : (b : Bool) → eqb (e .kind) 0 ≡ b → altersDisplay s (request s e) ≡ paints (e .kind) (operandAt e 0) (s .direction) (s .cursor .position)
+    by-kind true k = simp k (writes s (operandAt e 0) (operandAt e 1))
+    by-kind false k = simp k (reads s (operandAt e 0))

@@ -1,0 +1,86 @@
+-- Document 01's "Painting" of chip 1, said by itself: which accesses alter the display, and a table of accesses that do and that don't.
+-- Assumes nothing.
+use Prim.Native.Nat.{ℕ}
+use mathlib.Core.Bool.{Bool, true, false, not, _&&_, _||_}
+use mathlib.Core.List.{List, [], _∷_}
+use lib.Dec.{T, eqb, ltb}
+use lib.ListN.{replicate}
+use Rattle.event.specs.Event.{Raw, operandAt}
+use Rattle.tlc34058.specs.State.{Port}
+use Rattle.tlc34058.specs.Port.{accessRefusal, select, request, altersDisplay}
+
+-- an unrefused colour write made at position 2 (an overlay write is refused with the address over 3), or an unrefused control write at 04h, 05h or 06h
+abbrev pub paints : ℕ → ℕ → ℕ → ℕ → Bool
+paints kind selector address position =
+    eqb kind 0
+    && ((eqb selector 1 && eqb position 2)
+    || ((eqb selector 3 && (not (ltb 3 address) && eqb position 2))
+    || (eqb selector 2 && (eqb address 4 || (eqb address 5 || eqb address 6)))))
+
+-- an access at an address and a position
+pub record Row : Type 0 where
+  pub kind : ℕ
+  pub selector : ℕ
+  pub address : ℕ
+  pub position : ℕ
+  pub alters : Bool
+
+abbrev pub row : ℕ → ℕ → ℕ → ℕ → Bool → Row
+row kind selector address position alters = record { kind = kind; selector = selector; address = address; position = position; alters = alters }
+
+unfoldable pub table : List Row
+table =
+    -- the end of a palette triple and of an overlay triple; registers 04h, 05h, 06h
+    row 0 1 0 2 true
+    ∷ row 0 1 255 2 true
+    ∷ row 0 3 0 2 true
+    ∷ row 0 3 3 2 true
+    ∷ row 0 2 4 0 true
+    ∷ row 0 2 5 1 true
+    ∷ row 0 2 6 2 true
+    -- positions 0 and 1; an address write; 07h
+    ∷ row 0 1 5 0 false
+    ∷ row 0 1 5 1 false
+    ∷ row 0 3 2 0 false
+    ∷ row 0 3 2 1 false
+    ∷ row 0 0 7 2 false
+    ∷ row 0 2 7 2 false
+    -- refused: an overlay address over 3, control addresses 3 and 8, a selector over 3
+    ∷ row 0 3 4 2 false
+    ∷ row 0 2 3 2 false
+    ∷ row 0 2 8 2 false
+    ∷ row 0 4 5 2 false
+    -- every read
+    ∷ row 1 0 5 2 false
+    ∷ row 1 1 5 2 false
+    ∷ row 1 2 5 2 false
+    ∷ row 1 3 2 2 false
+    ∷ []
+
+abbrev pub portAt : ℕ → ℕ → Port
+portAt address position = record {
+  colours = replicate 780 0;
+  cursor = record { address = address; position = position; heldRed = 0; heldGreen = 0 };
+  registers = record { readMask = 0; blinkMask = 0; command = 0; test = 0 };
+}
+
+abbrev pub eventOf : Row → Raw
+eventOf r = record { kind = r .kind; operand = r .selector ∷ replicate 7 0 }
+
+abbrev pub same : Bool → Bool → Bool
+same true b = b
+same false b = not b
+
+unfoldable pub holds : Row → Bool
+holds r =
+    let p : Port = portAt (r .address) (r .position) in
+    same (r .alters) (altersDisplay p (request p (eventOf r)))
+
+abbrev pub all : List Row → Bool
+all [] = true
+all (r ∷ rs) = holds r && all rs
+
+-- every row holds
+pub rows : T (all table)
+unfolding table holds request select accessRefusal
+rows = tt

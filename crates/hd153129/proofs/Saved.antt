@@ -1,18 +1,19 @@
 -- Places of a sound state are valid and the other way round; every restored state is sound; a save leaves a sound state as it was.
 -- Assumes nothing.
-use Prim.Native.Nat.{ℕ, _+_, _≤_}
-use mathlib.Core.Path.{_≡_, refl, _∙_, ap}
+use Prim.Native.Nat.{ℕ, _+_, _≤_, _<_}
+use mathlib.Core.Path.{_≡_, refl, sym, _∙_, ap}
 use mathlib.Core.List.{List, [], _∷_, _++_}
 use native.Mathlib.Omega.{arith}
-use borrow.Author.Tests.{eqb-true}
+use borrow.Author.Tests.{eqb-true, eq-eqb}
 use lib.Dec.{eqb}
-use lib.ListN.{length, getD, replicate}
+use lib.ListN.{length, getD, take, replicate, take-append-drop}
 use lib.Seq.{take-at, getD-append-add, getD-drop}
 use Rattle.laws.proofs.Tests.{cond-by}
-use Rattle.laws.proofs.Lists.{zeros-small}
-use Rattle.snapshot.specs.Snapshot.{Valid, refusalOf, restored, restoredBy, resaved}
+use Rattle.laws.proofs.Lists.{zeros-small, drop-list}
+use Rattle.snapshot.specs.Snapshot.{Valid, refusalOf, restored, restoredBy, resaved, snapshotOf}
 use Rattle.snapshot.proofs.Parts.{Parts, each, parts-valid, valid-parts, places-parts}
 use Rattle.snapshot.proofs.RoundTrip.{restored-by-back, restored-by}
+use Rattle.snapshot.proofs.RoundTrip as codec
 use Rattle.snapshot.proofs.Valid.{restored-valid}
 use Rattle.hd153129.specs.State.{State, fresh}
 use Rattle.hd153129.specs.Places.{largest, tailOf, placesOf, stateFrom, saved, restore}
@@ -59,7 +60,7 @@ sound-restore b =
     (λ e. sound-from (restored (length largest) b) (restored-valid 2 largest b (eqb-true _ _ e)))
     (λ e. sound-fresh)
 
-largest-long : length largest ≡ 774
+pub largest-long : length largest ≡ 774
 unfolding largest
 largest-long = refl
 
@@ -85,3 +86,24 @@ fresh-from = refl
 pub resaved-state : (s : State) → stateFrom (resaved 2 largest (placesOf s)) ≡ restore (saved s)
 resaved-state s =
     restored-by 2 largest (saved s) (replicate (length largest) 0) stateFrom ∙ ap (λ f. restoredBy 2 largest stateFrom f (saved s)) fresh-from
+
+-- restoring the places is restoring the state
+pub decoded-state : (b : List ℕ) → stateFrom (restoredBy 2 largest (λ l. l) (replicate 774 0) b) ≡ restore b
+unfolding largest
+decoded-state b = restored-by 2 largest b (replicate 774 0) stateFrom ∙ ap (λ f. restoredBy 2 largest stateFrom f b) fresh-from
+
+-- the places of the state of 774 places are those places
+places-back : (l : List ℕ) → length l ≡ 774 → placesOf (stateFrom l) ≡ l
+unfolding placesOf stateFrom
+places-back l h = ap (λ r. take 768 l ++ r) (sym (drop-list l 768 6 h)) ∙ take-append-drop 768 l
+
+restore-accepted : (b : List ℕ) → refusalOf 2 largest b ≡ 0 → restore b ≡ stateFrom (restored (length largest) b)
+unfolding restoredBy
+restore-accepted b h = simp (eq-eqb _ _ h)
+
+-- for every accepted snapshot, restoring and then saving gives the same bytes
+pub bytes-back : (b : List ℕ) → ((i : ℕ) → getD b i 0 < 256) → refusalOf 2 largest b ≡ 0 → saved (restore b) ≡ b
+bytes-back b small h =
+    let l : List ℕ = restored (length largest) b in
+    let long : length l ≡ 774 = restored-valid 2 largest b h .long ∙ largest-long in
+    ap saved (restore-accepted b h) ∙ ap (snapshotOf 2) (places-back l long) ∙ codec.bytes-back 2 largest b small h

@@ -109,9 +109,9 @@ pub fn read(colours: &[u8], c: Control, selector: u8, part: &mut [u8]) -> Contro
     requires { ⌜ (length (now colours) ≡ 768) × (c .cursor .position .0 ≤ 2) × (length (now part) ≡ 18) ⌝ }
     ensures { λ r. ⌜ Accessed (joined (now (colours .entry)) c) (joined (now (colours .entry)) r) (requestRead (c .direction) selector) (now (part .exit)) ⌝ }
 {
-    let refusal = access_refusal(selector, c.direction, 0);
-    if refusal != 0 {
-        event::put_answer(part, refusal, 0);
+    let refused = access_refusal(selector, c.direction, 0);
+    if refused != 0 {
+        event::put_answer(part, refused, 0);
         return c;
     }
     event::put_answer(part, 0, value(colours, c, selector));

@@ -55,3 +55,12 @@ stored-behind s room vs n e h =
     let l : List ℕ = s ++ drop (length s) room in
     let long : length l ≡ n + length vs = simp (length-append, length-drop) (omega arith) in
     sets-eq vs l n (omega arith) ∙ rw (take-at s (drop (length s) room) n e, drop-of-length-le l {i = n + length vs} (omega arith), append-nil)
+
+-- m elements from index n on
+abbrev pub listFrom : List ℕ → ℕ → ℕ → List ℕ
+listFrom l n zero = []
+listFrom l n (suc m) = getD l n 0 ∷ listFrom l (suc n) m
+
+pub drop-list : (l : List ℕ) (n m : ℕ) → length l ≡ n + m → drop n l ≡ listFrom l n m
+drop-list l n zero h = drop-of-length-le l {i = n} (omega arith)
+drop-list l n (suc m) h = drop-cons l n 0 (omega arith) ∙ ap (λ r. getD l n 0 ∷ r) (drop-list l (suc n) m (omega arith))

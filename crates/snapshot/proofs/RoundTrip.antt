@@ -100,6 +100,11 @@ restored-by chip t s z from = go (eqb (refusalOf chip t s) 0)
     go true = refl
     go false = refl
 
+-- what decoding leaves in places that were lent
+pub decoded-by : (chip n : ℕ) (t u b z : List ℕ) → u ≡ t → n ≡ length t → cond (eqb (refusalOf chip u b) 0) (restored n b) z ≡ restoredBy chip t (λ l. l) z b
+unfolding restoredBy
+decoded-by chip n t u b z e h = rw (e, h)
+
 -- what decoding leaves in cleared places, of the bytes that encoding wrote
 pub resaved-from : (chip n : ℕ) (t l room bytes cleared : List ℕ) → length t ≡ length l → n ≡ length (snapshotOf chip l) → bytes ≡ over (snapshotOf chip l) room → cleared ≡ replicate (length l) 0
     → cond (eqb (refusalOf chip t (take (n - 0) bytes)) 0) (restored (length cleared) (take (n - 0) bytes)) cleared ≡ resaved chip t l

@@ -155,9 +155,9 @@ pub fn read(colours: &[u8], c: Control, selector: u8, part: &mut [u8]) -> Contro
 {
     let cursor = c.cursor;
     let address = cursor.address;
-    let refusal = access_refusal(selector, address.0);
-    if refusal != 0 {
-        event::put_answer(part, refusal, 0);
+    let refused = access_refusal(selector, address.0);
+    if refused != 0 {
+        event::put_answer(part, refused, 0);
         return c;
     }
     event::put_answer(part, 0, value(colours, c, selector));

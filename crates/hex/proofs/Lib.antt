@@ -1,0 +1,3 @@
+-- Laws on hexadecimal digits.
+-- Assumes nothing.
+pub mod Laws

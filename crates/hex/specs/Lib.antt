@@ -1,0 +1,3 @@
+-- What hexadecimal digits are.
+-- Assumes nothing.
+pub mod Hex

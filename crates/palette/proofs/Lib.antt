@@ -1,0 +1,6 @@
+-- Laws of the run.
+pub mod Turn
+pub mod Either
+pub mod Refusals
+pub mod Whole
+pub mod Demand3

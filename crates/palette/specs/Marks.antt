@@ -1,0 +1,113 @@
+-- Document 01's marked lines M1 to M10: one table, and one proposition over its rows. A row that can't tell right from wrong on a fresh chip (M7) has one beside it that can.
+-- Assumes nothing.
+use Prim.Native.Nat.{ℕ, suc}
+use mathlib.Core.Bool.{Bool, true, false, cond, _&&_}
+use mathlib.Core.List.{List, [], _∷_, _++_}
+use lib.Dec.{T, eqb}
+use lib.ListN.{getD, replicate}
+use Rattle.interleaving.specs.Log.{answers, end}
+use Rattle.event.specs.Event.{Raw}
+use Rattle.colour.specs.Colour as colour
+use Rattle.tlc34058.specs.State as state₁
+use Rattle.tlc34058.specs.Port as port₁
+use Rattle.tlc34058.specs.Places as places₁
+use Rattle.hd153129.specs.State as state₂
+use Rattle.hd153129.specs.Port as port₂
+use Rattle.hd153129.specs.Places as places₂
+use Rattle.chip.specs.Chip.{State, tlc34058, hd153129, unbuilt, chip}
+use Rattle.log.specs.Log.{tagAll}
+
+abbrev pub write : ℕ → ℕ → Raw
+write selector b = record { kind = 0; operand = selector ∷ b ∷ replicate 6 0 }
+
+abbrev pub read : ℕ → Raw
+read selector = record { kind = 1; operand = selector ∷ replicate 7 0 }
+
+abbrev pub vertical : Raw
+vertical = record { kind = 3; operand = replicate 8 0 }
+
+-- a place and its value
+pub record At : Type 0 where
+  pub place : ℕ
+  pub value : ℕ
+
+abbrev pub at : ℕ → ℕ → At
+at p v = record { place = p; value = v }
+
+-- the events on a fresh chip; every place that isn't 0 at the end; bytes 0 and 1 of the last answer, as the marked line names them
+pub record Row : Type 0 where
+  pub start : State
+  pub events : List Raw
+  pub places : List At
+  pub refused : ℕ
+  pub byte : ℕ
+
+abbrev pub nonzero : ℕ → List ℕ → List At
+nonzero i [] = []
+nonzero i (x ∷ xs) = cond (eqb x 0) (nonzero (suc i) xs) (at i x ∷ nonzero (suc i) xs)
+
+abbrev pub same : List At → List At → Bool
+same [] [] = true
+same [] (y ∷ ys) = false
+same (x ∷ xs) [] = false
+same (x ∷ xs) (y ∷ ys) = eqb (x .place) (y .place) && (eqb (x .value) (y .value) && same xs ys)
+
+abbrev pub lastOf : List (List ℕ) → List ℕ
+lastOf [] = []
+lastOf (a ∷ []) = a
+lastOf (a ∷ b ∷ rest) = lastOf (b ∷ rest)
+
+abbrev pub placesOf : State → List ℕ
+placesOf (tlc34058 s) = places₁.placesOf s
+placesOf (hd153129 s) = places₂.placesOf s
+placesOf (unbuilt n) = []
+
+abbrev pub one : List Raw → List At → ℕ → ℕ → Row
+one es ps r b = record { start = tlc34058 state₁.fresh; events = es; places = ps; refused = r; byte = b }
+
+abbrev pub two : List Raw → List At → ℕ → ℕ → Row
+two es ps r b = record { start = hd153129 state₂.fresh; events = es; places = ps; refused = r; byte = b }
+
+unfoldable pub holds : Row → Bool
+holds row =
+    let l = tagAll (row .events) in
+    let last : List ℕ = lastOf (answers chip (row .start) l) in
+    same (nonzero 0 (placesOf (end chip (row .start) l))) (row .places) && (eqb (getD last 0 0) (row .refused) && eqb (getD last 1 0) (row .byte))
+
+abbrev pub all : List Row → Bool
+all [] = true
+all (r ∷ rs) = holds r && all rs
+
+unfoldable pub table : List Row
+table =
+    -- M1: address FFh, palette 10h 20h 30h: entry 255 is that, address 00h
+    one (write 0 255 ∷ write 1 16 ∷ write 1 32 ∷ write 1 48 ∷ []) (at 765 16 ∷ at 766 32 ∷ at 767 48 ∷ at 782 16 ∷ at 783 32 ∷ []) 0 0
+    -- M2: address 3, overlay triple: address 4; the next overlay write gives 2
+    ∷ one (write 0 3 ∷ write 3 1 ∷ write 3 2 ∷ write 3 3 ∷ []) (at 777 1 ∷ at 778 2 ∷ at 779 3 ∷ at 780 4 ∷ at 782 1 ∷ at 783 2 ∷ []) 0 0
+    ∷ one (write 0 3 ∷ write 3 1 ∷ write 3 2 ∷ write 3 3 ∷ write 3 9 ∷ []) (at 777 1 ∷ at 778 2 ∷ at 779 3 ∷ at 780 4 ∷ at 782 1 ∷ at 783 2 ∷ []) 2 0
+    -- M3: palette write 11h, address read, palette write 22h: held red 22h, no entry changed
+    ∷ one (write 1 17 ∷ read 0 ∷ write 1 34 ∷ []) (at 781 1 ∷ at 782 34 ∷ []) 0 0
+    -- M4: palette read, read, write 7: entry 0 is 0 0 7
+    ∷ one (read 1 ∷ read 1 ∷ write 1 7 ∷ []) (at 2 7 ∷ at 780 1 ∷ []) 0 0
+    -- M5: control read at address 8 gives 2; at 7 gives 0
+    ∷ one (write 0 8 ∷ read 2 ∷ []) (at 780 8 ∷ []) 2 0
+    ∷ one (write 0 7 ∷ read 2 ∷ []) (at 780 7 ∷ []) 0 0
+    -- M6: 127 vertical periods: count 127; one more: 0
+    ∷ one (replicate 127 vertical) (at 788 127 ∷ []) 0 0
+    ∷ one (replicate 128 vertical) [] 0 0
+    -- M7: write 3 with FFh: address 0, first read is entry 255's red; and again with that entry told apart
+    ∷ two (write 3 255 ∷ []) (at 770 1 ∷ []) 0 0
+    ∷ two (write 3 255 ∷ read 1 ∷ []) (at 769 1 ∷ at 770 1 ∷ []) 0 0
+    ∷ two (write 0 255 ∷ write 1 16 ∷ write 1 32 ∷ write 1 48 ∷ write 3 255 ∷ read 1 ∷ [])
+    (at 765 16 ∷ at 766 32 ∷ at 767 48 ∷ at 769 1 ∷ at 770 1 ∷ at 771 16 ∷ at 772 32 ∷ []) 0 16
+    -- M8: colour byte FFh is held as 3Fh
+    ∷ two (write 1 255 ∷ []) (at 769 1 ∷ at 771 63 ∷ []) 0 0
+    -- M9: colour read gives 3
+    ∷ two (read 1 ∷ []) [] 3 0
+    -- M10: an address read inside a triple leaves the position
+    ∷ two (write 0 5 ∷ write 1 1 ∷ read 0 ∷ []) (at 768 5 ∷ at 769 1 ∷ at 771 1 ∷ []) 0 5
+    ∷ []
+
+pub marked : T (all table)
+unfolding table holds places₁.placesOf places₂.placesOf port₁.accessRefusal port₁.select port₁.request port₁.register port₁.withRegister port₂.accessRefusal port₂.requestWrite port₂.requestRead port₂.request colour.onward colour.held colour.stored
+marked = tt

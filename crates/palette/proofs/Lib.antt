@@ -4,3 +4,4 @@ pub mod Either
 pub mod Refusals
 pub mod Whole
 pub mod Demand3
+pub mod Demand1

@@ -1,5 +1,25 @@
-# make test: the whole gate. make prove: the proofs alone, unchanged crates not again. make fmt: the layout.
-.PHONY: test prove fmt clean
+# make run: replay a sample log. make test: the whole gate. The other targets are in README.md.
+CC ?= cc
+CFLAGS ?= -O2
+WARNINGS = -std=c11 -Wall -Wextra -pedantic -Werror
+LIBPALETTE ?= target/staticlib/libpalette.a
+REPLAY ?= target/bin/replay
+VERSION ?= 0.1.0
+SECONDS ?= 600
+SEED ?= 0x7a19e261
+PREFIX ?= /usr/local
+DESTDIR ?=
+COMPARE = tests/compare/target/release/compare
+CRATES = crates.txt $(wildcard crates/*/src/* crates/*/specs/* crates/*/proofs/* crates/*/proofs/*/* crates/*/proofs/*/*/*)
+# What the scripts and the comparison's build find the library by.
+export LIBPALETTE REPLAY CC
+
+.PHONY: run test prove lib replay examples compare-build compare fuzz test-c test-formats seeded bench install fmt clean
+
+# The sample log, as the printing program prints it and as the restore tool shows it.
+run: $(REPLAY) examples
+	$(REPLAY) <target/examples/first.log
+	target/examples/restore - target/examples/first.log target/examples/first.end
 
 test:
 	@scripts/test
@@ -7,8 +27,63 @@ test:
 prove:
 	rt check
 
+lib: $(LIBPALETTE)
+$(LIBPALETTE): $(CRATES)
+	rt staticlib palette
+
+replay: $(REPLAY)
+$(REPLAY): $(CRATES)
+	rt check replay
+
+target/examples/%.log: examples/%.txt examples/assemble
+	@mkdir -p $(@D)
+	@examples/assemble $< >$@.part && mv $@.part $@
+
+target/examples/restore: examples/restore.c include/palette.h $(LIBPALETTE)
+	@mkdir -p $(@D)
+	@$(CC) $(WARNINGS) $(CFLAGS) -Iinclude examples/restore.c $(LIBPALETTE) $(LDLIBS) -o $@
+
+examples: target/examples/first.log target/examples/second.log target/examples/restore
+
+# The comparison with the second model. Its build sees whether the library has changed.
+compare-build: $(LIBPALETTE)
+	cd tests/compare && cargo build --release --offline --quiet
+
+compare: compare-build $(REPLAY)
+	$(COMPARE) --replay $(REPLAY)
+
+fuzz: compare-build $(REPLAY)
+	$(COMPARE) --seconds $(SECONDS) --seed $(SEED) --replay $(REPLAY)
+
+test-c: $(LIBPALETTE)
+	tests/c/run
+
+test-formats: $(LIBPALETTE)
+	tests/formats
+
+# Mistakes seeded into copies of the model and of the plain program: each must be caught.
+seeded:
+	tests/seeded-mistakes
+	tests/seeded-bugs
+
+target/bench/bench: bench/bench.c bench/plain.c bench/plain.h include/palette.h $(LIBPALETTE)
+	@mkdir -p $(@D)
+	$(CC) $(WARNINGS) -O3 -Iinclude -Ibench bench/bench.c bench/plain.c $(LIBPALETTE) $(LDLIBS) -o $@
+
+bench: target/bench/bench
+	target/bench/bench
+
+# Header, archive, program and pkg-config file, each replaced in one step.
+install: $(LIBPALETTE) $(REPLAY)
+	install -d $(DESTDIR)$(PREFIX)/include $(DESTDIR)$(PREFIX)/lib/pkgconfig $(DESTDIR)$(PREFIX)/bin
+	install -m 644 include/palette.h $(DESTDIR)$(PREFIX)/include/palette.h
+	install -m 644 $(LIBPALETTE) $(DESTDIR)$(PREFIX)/lib/libpalette.a
+	install -m 755 $(REPLAY) $(DESTDIR)$(PREFIX)/bin/replay
+	sed -e 's|@PREFIX@|$(PREFIX)|' -e 's|@VERSION@|$(VERSION)|' palette.pc.in >target/palette.pc
+	install -m 644 target/palette.pc $(DESTDIR)$(PREFIX)/lib/pkgconfig/palette.pc
+
 fmt:
 	rt fmt
 
 clean:
-	rm -rf target build
+	rm -rf target tests/target tests/compare/target tests/sequences/target

@@ -1,0 +1,123 @@
+/*
+ * No byte outside the four byte strings is touched, not even read: each string
+ * is laid against a page that can't be accessed, behind it or before it, so a
+ * step outside kills this program.
+ *
+ *   edges SNAPSHOT LOG
+ *
+ * The snapshot and the log must be accepted together. They are run whole, then
+ * with each shorter length of either, which must be refused.
+ */
+#define _DEFAULT_SOURCE
+
+#include <stdbool.h>
+#include <stdio.h>
+#include <stdlib.h>
+#include <string.h>
+#include <sys/mman.h>
+#include <unistd.h>
+
+#include "palette.h"
+
+enum { STRINGS = 4, SNAPSHOT = 0, LOG, ANSWERS, END };
+
+/* Room for one byte string between two pages that can't be accessed. */
+struct room {
+    uint8_t *start;
+    size_t size;
+};
+
+static struct room rooms[STRINGS];
+
+static void fail(const char *what)
+{
+    perror(what);
+    exit(2);
+}
+
+static struct room make_room(size_t most)
+{
+    size_t page = (size_t)sysconf(_SC_PAGESIZE);
+    size_t size = (most + page - 1) / page * page;
+    uint8_t *pages = mmap(NULL, size + 2 * page, PROT_READ | PROT_WRITE,
+                          MAP_PRIVATE | MAP_ANONYMOUS, -1, 0);
+    if (pages == MAP_FAILED || mprotect(pages, page, PROT_NONE) != 0 ||
+        mprotect(pages + page + size, page, PROT_NONE) != 0)
+        fail("pages");
+    return (struct room){pages + page, size};
+}
+
+/* Where a string of this length lies: against the page behind or before it. */
+static uint8_t *place(unsigned string, size_t len, bool behind)
+{
+    return rooms[string].start + (behind ? rooms[string].size - len : 0);
+}
+
+static uint8_t *place_copy(unsigned string, const uint8_t *bytes, size_t len, bool behind)
+{
+    uint8_t *copy = place(string, len, behind);
+    memcpy(copy, bytes, len);
+    return copy;
+}
+
+struct input {
+    uint8_t bytes[65536];
+    size_t len;
+};
+
+static void read_input(const char *path, struct input *input)
+{
+    FILE *file = fopen(path, "rb");
+    if (file == NULL)
+        fail(path);
+    input->len = fread(input->bytes, 1, sizeof input->bytes, file);
+    if (ferror(file) || fclose(file) != 0)
+        fail(path);
+}
+
+static unsigned run(const struct input *snapshot, size_t snapshot_len, const struct input *log,
+                    size_t log_len, size_t answers_len, size_t end_len, bool behind)
+{
+    uint64_t result = palette_run(
+        place_copy(SNAPSHOT, snapshot->bytes, snapshot_len, behind), snapshot_len,
+        place_copy(LOG, log->bytes, log_len, behind), log_len,
+        place(ANSWERS, answers_len, behind), answers_len, place(END, end_len, behind), end_len);
+    return PALETTE_REFUSAL(result);
+}
+
+/* The number of runs that were not judged as they should be. */
+static unsigned run_all(const struct input *snapshot, const struct input *log, bool behind)
+{
+    size_t answers_len = (log->len - 5) / 9 * PALETTE_ANSWER_BYTES;
+    unsigned wrong = 0;
+    wrong += run(snapshot, snapshot->len, log, log->len, answers_len, PALETTE_END_BYTES, behind) != 0;
+    wrong += run(snapshot, snapshot->len, log, log->len, answers_len - 1, PALETTE_END_BYTES,
+                 behind) != PALETTE_ANSWER_BUFFER;
+    wrong += run(snapshot, snapshot->len, log, log->len, answers_len, PALETTE_END_BYTES - 1,
+                 behind) != PALETTE_END_BUFFER;
+    for (size_t len = 0; len < snapshot->len; len++)
+        wrong += run(snapshot, len, log, log->len, answers_len, PALETTE_END_BYTES, behind) !=
+                 (len < 3 ? PALETTE_SNAPSHOT_SHORT : PALETTE_SNAPSHOT_LENGTH);
+    for (size_t len = 0; len < log->len; len++)
+        wrong += run(snapshot, snapshot->len, log, len, answers_len, PALETTE_END_BYTES, behind) !=
+                 (len < 5 ? PALETTE_LOG_SHORT : PALETTE_LOG_LENGTH);
+    return wrong;
+}
+
+int main(int argc, char **argv)
+{
+    static struct input snapshot, log;
+    if (argc != 3) {
+        fprintf(stderr, "usage: edges SNAPSHOT LOG\n");
+        return 2;
+    }
+    read_input(argv[1], &snapshot);
+    read_input(argv[2], &log);
+    rooms[SNAPSHOT] = make_room(sizeof snapshot.bytes);
+    rooms[LOG] = make_room(sizeof log.bytes);
+    rooms[ANSWERS] = make_room(PALETTE_MOST_ANSWER_BYTES);
+    rooms[END] = make_room(PALETTE_END_BYTES);
+    unsigned wrong = log.len < 14 ? 1 : run_all(&snapshot, &log, true) + run_all(&snapshot, &log, false);
+    printf("%u runs judged wrongly\n", wrong);
+    return wrong == 0 ? 0 : 1;
+}

@@ -1,0 +1,384 @@
+//! The classes of random cases. Each makes one case; the case decides nothing
+//! about what is right, the model does.
+
+use crate::case::{log_bytes, Case};
+use crate::damage::{damage_length, damaged_log, damaged_snapshot};
+use crate::damage::{several_faults, two_indexed_faults};
+use crate::generate::{address_place, largest, nonzero, place_count};
+use crate::generate::{read, save, snapshot_bytes, tick, vertical, write};
+use crate::random::Random;
+use model::{Event, END_BUFFER_BYTES, MOST_EVENTS};
+
+/// A class of random cases.
+pub struct Class {
+    pub name: &'static str,
+    /// Cases in a round.
+    pub cases: usize,
+    pub make: fn(&mut Random) -> Case,
+}
+
+const fn class(name: &'static str, cases: usize, make: fn(&mut Random) -> Case) -> Class {
+    Class { name, cases, make }
+}
+
+pub const RANDOM: &[Class] = &[
+    class("logs, chip 1", 700, |random| any_log(random, 1)),
+    class("logs, chip 2", 700, |random| any_log(random, 2)),
+    class("one event on any state", 3000, one_event),
+    class("ticks through the blink cycle", 40, blink_cycle),
+    class("colours written and read round FFh", 150, round_the_end),
+    class("saves between all other events", 150, saves_between),
+    class("full snapshots", 60, full_snapshot),
+    class("logs at the limit and one more", 6, limit),
+    class("damaged snapshot", 1200, |random| {
+        let (chip, number) = (random.chip(), 20 + random.up_to(5));
+        let snapshot = damaged_snapshot(random, chip, number);
+        let log = log_bytes(chip, &random.events(chip, 2));
+        Case::exact(snapshot, log, random)
+    }),
+    class("damaged log", 1200, |random| {
+        let (chip, number) = (random.chip(), 10 + random.up_to(5));
+        let log = damaged_log(random, chip, number);
+        let snapshot = random.snapshot(chip);
+        Case::exact(snapshot, log, random)
+    }),
+    class("several faults at once", 1200, several_faults),
+    class(
+        "two faults, first, last or any index",
+        1200,
+        two_indexed_faults,
+    ),
+    class("lengths one off", 600, one_off),
+    class("snapshot and log for two chips", 200, two_chips),
+    class("buffers short, exact and longer", 600, buffers),
+    class("any bytes", 1500, any_bytes),
+];
+
+fn any_log(random: &mut Random, chip: u8) -> Case {
+    let count = random.pick(&[0, 1, 2, 5, 20, 60]);
+    let events = random.events(chip, count);
+    let snapshot = random.snapshot(chip);
+    Case::exact(snapshot, log_bytes(chip, &events), random)
+}
+
+fn one_event(random: &mut Random) -> Case {
+    let chip = random.chip();
+    let events = random.events(chip, 1);
+    let snapshot = random.snapshot(chip);
+    Case::exact(snapshot, log_bytes(chip, &events), random)
+}
+
+/// Many vertical periods with ticks between them, rates and masks changing.
+fn blink_cycle(random: &mut Random) -> Case {
+    let mut events = vec![write(0, 4), write(2, 0xFF), write(0, 5)];
+    events.extend([write(2, random.byte()), write(0, 6)]);
+    events.push(write(2, 0x40 | random.byte()));
+    for _ in 0..140 {
+        events.push(vertical());
+        let (ol0, ol1) = (random.byte() & 31, random.byte() & 31);
+        let mut pixel = || random.byte();
+        events.push(tick([pixel(), pixel(), pixel(), 255, 0, ol0, ol1, 1]));
+        if random.one_in(40) {
+            events.push(write(2, random.byte()));
+        }
+    }
+    let snapshot = random.snapshot(1);
+    Case::exact(snapshot, log_bytes(1, &events), random)
+}
+
+/// Long runs of colour accesses across the last address.
+fn round_the_end(random: &mut Random) -> Case {
+    let chip = random.chip();
+    let mut events = Vec::new();
+    for _ in 0..4 {
+        events.push(write(random.pick(&[0, 3]), 252 + random.up_to(3)));
+        for _ in 0..16 {
+            let byte = random.byte();
+            events.push(if random.one_in(2) {
+                write(1, byte)
+            } else {
+                read(1)
+            });
+        }
+        events.extend([read(0), read(2), read(3)]);
+    }
+    let snapshot = random.snapshot(chip);
+    Case::exact(snapshot, log_bytes(chip, &events), random)
+}
+
+fn saves_between(random: &mut Random) -> Case {
+    let chip = random.chip();
+    let events: Vec<Event> = random
+        .events(chip, 15)
+        .into_iter()
+        .flat_map(|event| [save(), event])
+        .collect();
+    let snapshot = random.snapshot(chip);
+    Case::exact(snapshot, log_bytes(chip, &events), random)
+}
+
+/// No place is 0, so the snapshot has its greatest length; some are largest.
+fn full_snapshot(random: &mut Random) -> Case {
+    let chip = random.chip();
+    let places: Vec<u8> = (0..place_count(chip))
+        .map(|place| {
+            let most = largest(chip, place);
+            let between = 1 + random.up_to(most - 1);
+            random.pick(&[1, most, between])
+        })
+        .collect();
+    let count = random.pick(&[0, 1, 10]);
+    let events = random.events(chip, count);
+    let snapshot = snapshot_bytes(chip, &nonzero(&places));
+    Case::exact(snapshot, log_bytes(chip, &events), random)
+}
+
+/// One event under the limit, the limit, and one over it.
+fn limit(random: &mut Random) -> Case {
+    let chip = random.chip();
+    let count = random.pick(&[MOST_EVENTS - 1, MOST_EVENTS, MOST_EVENTS, MOST_EVENTS + 1]);
+    let events = random.events(chip, count);
+    let snapshot = random.snapshot(chip);
+    Case::exact(snapshot, log_bytes(chip, &events), random)
+}
+
+/// A length or a count that is off by one, in the snapshot or the log.
+fn one_off(random: &mut Random) -> Case {
+    let chip = random.chip();
+    let mut snapshot = random.snapshot(chip);
+    let count = random.below(5);
+    let mut log = log_bytes(chip, &random.events(chip, count));
+    match random.below(6) {
+        0 => snapshot.push(1),
+        1 => drop(snapshot.pop()),
+        2 => log.push(0),
+        3 => drop(log.pop()),
+        4 => snapshot[1] = snapshot[1].wrapping_add(random.pick(&[1, 255])),
+        _ => log[1] = log[1].wrapping_add(random.pick(&[1, 255])),
+    }
+    Case::exact(snapshot, log, random)
+}
+
+fn two_chips(random: &mut Random) -> Case {
+    let chip = random.chip();
+    let count = random.below(5);
+    let log = log_bytes(3 - chip, &random.events(3 - chip, count));
+    let snapshot = random.snapshot(chip);
+    Case::exact(snapshot, log, random)
+}
+
+fn buffers(random: &mut Random) -> Case {
+    let chip = random.chip();
+    let count = random.pick(&[0, 1, 2, 7, 30]);
+    let log = log_bytes(chip, &random.events(chip, count));
+    let snapshot = random.snapshot(chip);
+    let mut case = Case::exact(snapshot, log, random);
+    let exact = case.answers_len;
+    case.answers_len = random.pick(&[exact.saturating_sub(1), exact, exact, exact + 1, exact + 40]);
+    case.end_len = random.pick(&[
+        END_BUFFER_BYTES - 1,
+        END_BUFFER_BYTES,
+        END_BUFFER_BYTES,
+        END_BUFFER_BYTES + 1,
+        END_BUFFER_BYTES + 40,
+    ]);
+    if random.one_in(8) {
+        case.end_len = random.pick(&[0, 3, 2325]);
+    }
+    if random.one_in(8) {
+        case.answers_len = 0;
+    }
+    case
+}
+
+/// Accepted bytes with some changed, cut or added, or no sense at all.
+fn any_bytes(random: &mut Random) -> Case {
+    let chip = random.chip();
+    let mut snapshot = random.snapshot(chip);
+    let mut log = log_bytes(chip, &random.events(chip, 3));
+    if random.one_in(2) {
+        scramble(random, &mut snapshot);
+    } else {
+        scramble(random, &mut log);
+    }
+    Case::exact(snapshot, log, random)
+}
+
+fn scramble(random: &mut Random, bytes: &mut Vec<u8>) {
+    match random.below(5) {
+        0 => {
+            let len = random.below(40);
+            *bytes = (0..len).map(|_| random.byte() & 3).collect();
+        }
+        1 => damage_length(random, bytes, 1),
+        2 => bytes.truncate(random.below(bytes.len())),
+        _ => {
+            for _ in 0..random.pick(&[1, 1, 2, 5]) {
+                let at = random.below(bytes.len());
+                bytes[at] = random.pick(&[0, 1, 5, 64, 128, 255]);
+            }
+        }
+    }
+}
+
+/// Cases that are all tried, once: every byte value in its place.
+pub struct Sweep {
+    pub name: &'static str,
+    pub cases: fn(&mut Random) -> Vec<Case>,
+}
+
+pub const SWEEPS: &[Sweep] = &[
+    Sweep {
+        name: "every selector, written and read",
+        cases: every_selector,
+    },
+    Sweep {
+        name: "every address with every selector",
+        cases: every_address,
+    },
+    Sweep {
+        name: "every kind byte, OL byte and level byte",
+        cases: every_kind_and_level,
+    },
+    Sweep {
+        name: "every place: largest value, one more, 0",
+        cases: every_place,
+    },
+    Sweep {
+        name: "every chip byte",
+        cases: every_chip_byte,
+    },
+    Sweep {
+        name: "empty byte strings, null or not",
+        cases: empty_strings,
+    },
+];
+
+/// A state with something to see everywhere.
+fn lively(random: &mut Random, chip: u8, address: u8, position: u8) -> Vec<u8> {
+    let mut places: Vec<u8> = (0..place_count(chip))
+        .map(|place| random.up_to(largest(chip, place)))
+        .collect();
+    let at = address_place(chip);
+    places[at] = address;
+    places[at + 1] = position;
+    snapshot_bytes(chip, &nonzero(&places))
+}
+
+fn every_selector(random: &mut Random) -> Vec<Case> {
+    let mut cases = Vec::new();
+    for chip in [1, 2] {
+        for selector in 0..=255 {
+            for event in [write(selector, random.byte()), read(selector)] {
+                let snapshot = lively(random, chip, random_address(selector), selector % 3);
+                cases.push(Case::exact(snapshot, log_bytes(chip, &[event]), random));
+            }
+        }
+    }
+    cases
+}
+
+/// Addresses at which all of chip 1's selectors do something, in turn.
+fn random_address(number: u8) -> u8 {
+    [2, 5, 3, 6][usize::from(number / 4 % 4)]
+}
+
+fn every_address(random: &mut Random) -> Vec<Case> {
+    let mut cases = Vec::new();
+    for chip in [1, 2] {
+        for address in 0..=255 {
+            for position in 0..=2 {
+                let mut events = Vec::new();
+                for selector in [1, 3, 2, 0] {
+                    events.extend([write(selector, random.byte()), read(selector)]);
+                    events.push(write(random.pick(&[0, 3]), address));
+                }
+                let snapshot = lively(random, chip, address, position);
+                cases.push(Case::exact(snapshot, log_bytes(chip, &events), random));
+            }
+        }
+    }
+    cases
+}
+
+fn every_kind_and_level(random: &mut Random) -> Vec<Case> {
+    let mut cases = Vec::new();
+    for chip in [1, 2] {
+        for byte in 0..=255 {
+            let odd_kind = Event {
+                kind: byte,
+                operand: [0; 8],
+            };
+            let mut events = vec![odd_kind, tick([byte, 0, 0, 0, 0, 0, 0, byte])];
+            if chip == 1 {
+                events.push(tick([byte, 1, 2, 3, 4, byte, 0, 1]));
+                events.push(tick([byte, 1, 2, 3, 4, 0, byte, 3]));
+            }
+            for event in events {
+                let snapshot = lively(random, chip, 0, 0);
+                cases.push(Case::exact(snapshot, log_bytes(chip, &[event]), random));
+            }
+        }
+    }
+    cases
+}
+
+fn every_place(random: &mut Random) -> Vec<Case> {
+    let mut cases = Vec::new();
+    for chip in [1, 2] {
+        for place in 0..=place_count(chip) {
+            let most = largest(chip, place);
+            for value in [0, 1, most, most.saturating_add(1), 255] {
+                let snapshot = snapshot_bytes(chip, &[(place as u16, value)]);
+                let log = log_bytes(chip, &[save()]);
+                cases.push(Case::exact(snapshot, log, random));
+            }
+        }
+    }
+    cases
+}
+
+fn every_chip_byte(random: &mut Random) -> Vec<Case> {
+    let mut cases = Vec::new();
+    for chip in 0..=255 {
+        for other in [1, 2] {
+            let log = log_bytes(other, &[save()]);
+            cases.push(Case::exact(vec![chip, 0, 0], log, random));
+            let log = log_bytes(chip, &[save()]);
+            cases.push(Case::exact(vec![other, 0, 0], log, random));
+        }
+    }
+    cases
+}
+
+/// Each of the four byte strings empty or not, as a null pointer or not.
+fn empty_strings(random: &mut Random) -> Vec<Case> {
+    let mut cases = Vec::new();
+    for empty in 0..16 {
+        for (chip, events) in [
+            (1, vec![]),
+            (2, vec![]),
+            (1, vec![save()]),
+            (2, vec![read(0)]),
+        ] {
+            for null_if_empty in [false, true] {
+                let mut case = Case::exact(vec![chip, 0, 0], log_bytes(chip, &events), random);
+                case.null_if_empty = null_if_empty;
+                if empty & 1 != 0 {
+                    case.snapshot.clear();
+                }
+                if empty & 2 != 0 {
+                    case.log.clear();
+                }
+                if empty & 4 != 0 {
+                    case.answers_len = 0;
+                }
+                if empty & 8 != 0 {
+                    case.end_len = 0;
+                }
+                cases.push(case);
+            }
+        }
+    }
+    cases
+}

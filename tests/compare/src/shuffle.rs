@@ -1,0 +1,349 @@
+//! Demand 3, checked on the library itself: two logs with the same accesses in
+//! the same order and the same display events in the same order, shuffled
+//! together freely, saves anywhere, give every access the same answer and end
+//! with the same snapshot. If painting accesses that belong together have
+//! equally many display events before them, every tick is answered alike too.
+//!
+//! The library's own answers are compared with each other. The model only says
+//! which accesses paint, for that is a matter of the log and not of its run.
+
+use crate::case::{hexadecimal, log_bytes, Case};
+use crate::generate::save;
+use crate::random::Random;
+use model::{kind, painting_accesses, Event, ANSWER_BYTES};
+
+/// A sort of pair of logs.
+pub struct Shuffle {
+    pub name: &'static str,
+    /// Pairs in a round.
+    pub pairs: usize,
+    pub make: fn(&mut Random) -> Pair,
+}
+
+pub const SHUFFLES: &[Shuffle] = &[
+    Shuffle {
+        name: "demand 3: free shuffles, chip 1",
+        pairs: 60,
+        make: |random| free(random, 1),
+    },
+    Shuffle {
+        name: "demand 3: free shuffles, chip 2",
+        pairs: 60,
+        make: |random| free(random, 2),
+    },
+    Shuffle {
+        name: "demand 3: painting kept, chip 1",
+        pairs: 60,
+        make: |random| painting_kept(random, 1),
+    },
+    Shuffle {
+        name: "demand 3: painting kept, chip 2",
+        pairs: 60,
+        make: |random| painting_kept(random, 2),
+    },
+    Shuffle {
+        name: "demand 3: saves moved",
+        pairs: 60,
+        make: saves_moved,
+    },
+    Shuffle {
+        name: "demand 3: saves added",
+        pairs: 60,
+        make: saves_added,
+    },
+    Shuffle {
+        name: "demand 3: saves removed",
+        pairs: 60,
+        make: saves_removed,
+    },
+    Shuffle {
+        name: "demand 3: logs near the limit",
+        pairs: 1,
+        make: near_the_limit,
+    },
+];
+
+/// Two logs from one snapshot.
+#[derive(Clone)]
+pub struct Pair {
+    pub chip: u8,
+    pub snapshot: Vec<u8>,
+    pub one: Vec<Event>,
+    pub two: Vec<Event>,
+    pub layout: u64,
+}
+
+/// What a pair showed when demand 3 held.
+pub struct Held {
+    /// The painting condition held, so that ticks were compared.
+    pub painting_kept: bool,
+    /// Some tick was answered differently (the condition didn't hold then).
+    pub ticks_differ: bool,
+}
+
+fn is_access(event: &Event) -> bool {
+    event.kind <= kind::READ
+}
+
+fn is_display(event: &Event) -> bool {
+    event.kind == kind::TICK || event.kind == kind::VERTICAL
+}
+
+fn is_tick(event: &Event) -> bool {
+    event.kind == kind::TICK
+}
+
+fn only(events: &[Event], sort: fn(&Event) -> bool) -> Vec<Event> {
+    events.iter().copied().filter(sort).collect()
+}
+
+/// Both lists riffled together, each keeping its order.
+fn riffle(random: &mut Random, accesses: &[Event], displays: &[Event]) -> Vec<Event> {
+    let (mut a, mut d) = (accesses.iter(), displays.iter());
+    let mut riffled = Vec::new();
+    while a.len() + d.len() > 0 {
+        let from_a = random.below(a.len() + d.len()) < a.len();
+        let next = if from_a { a.next() } else { d.next() };
+        riffled.extend(next.copied());
+    }
+    riffled
+}
+
+fn random_log(random: &mut Random, chip: u8, count: usize) -> Vec<Event> {
+    let mut accesses = Vec::new();
+    while 3 * accesses.len() < 2 * count {
+        accesses.extend(random.burst(chip));
+    }
+    accesses.truncate(2 * count / 3);
+    let displays: Vec<Event> = (accesses.len()..count)
+        .map(|_| random.display(chip))
+        .collect();
+    riffle(random, &accesses, &displays)
+}
+
+fn free_shuffle(random: &mut Random, events: &[Event]) -> Vec<Event> {
+    riffle(random, &only(events, is_access), &only(events, is_display))
+}
+
+/// Each stretch between painting accesses is riffled by itself.
+fn painting_shuffle(random: &mut Random, events: &[Event], painting: &[usize]) -> Vec<Event> {
+    let mut shuffled = Vec::new();
+    let mut start = 0;
+    for &stop in painting {
+        shuffled.extend(free_shuffle(random, &events[start..stop]));
+        shuffled.push(events[stop]);
+        start = stop + 1;
+    }
+    shuffled.extend(free_shuffle(random, &events[start..]));
+    shuffled
+}
+
+/// Saves put anywhere, any number of them.
+fn with_saves(random: &mut Random, events: &[Event]) -> Vec<Event> {
+    let often = random.pick(&[2, 4, 20]);
+    let mut saved = Vec::new();
+    for &event in events {
+        while random.one_in(often) {
+            saved.push(save());
+        }
+        saved.push(event);
+    }
+    saved
+}
+
+fn start(random: &mut Random, chip: u8) -> (Vec<u8>, Vec<Event>) {
+    let snapshot = random.snapshot(chip);
+    let count = random.pick(&[6, 20, 45]);
+    (snapshot, random_log(random, chip, count))
+}
+
+fn free(random: &mut Random, chip: u8) -> Pair {
+    let (snapshot, events) = start(random, chip);
+    let shuffled = free_shuffle(random, &events);
+    pair(random, chip, snapshot, events, shuffled)
+}
+
+fn painting_kept(random: &mut Random, chip: u8) -> Pair {
+    let (snapshot, events) = start(random, chip);
+    let painting = painting(chip, &snapshot, &events);
+    let shuffled = painting_shuffle(random, &events, &painting);
+    pair(random, chip, snapshot, events, shuffled)
+}
+
+/// As many saves in both logs, at other places.
+fn saves_moved(random: &mut Random) -> Pair {
+    let chip = random.chip();
+    let (snapshot, events) = start(random, chip);
+    let saves = 1 + random.below(8);
+    let (mut one, mut two) = (events.clone(), events);
+    for _ in 0..saves {
+        one.insert(random.below(one.len() + 1), save());
+        two.insert(random.below(two.len() + 1), save());
+    }
+    pair(random, chip, snapshot, one, two)
+}
+
+fn saves_added(random: &mut Random) -> Pair {
+    let chip = random.chip();
+    let (snapshot, one) = start(random, chip);
+    let mut two = with_saves(random, &one);
+    two.push(save());
+    pair(random, chip, snapshot, one, two)
+}
+
+fn saves_removed(random: &mut Random) -> Pair {
+    let chip = random.chip();
+    let (snapshot, events) = start(random, chip);
+    let mut one = with_saves(random, &events);
+    one.insert(0, save());
+    pair(random, chip, snapshot, one, events)
+}
+
+/// Saves fill one log up to the limit; the other has none.
+fn near_the_limit(random: &mut Random) -> Pair {
+    let chip = random.chip();
+    let snapshot = random.snapshot(chip);
+    let mut one = random_log(random, chip, 2900);
+    let painting = painting(chip, &snapshot, &one);
+    let two = painting_shuffle(random, &one, &painting);
+    while one.len() < model::MOST_EVENTS {
+        one.insert(random.below(one.len() + 1), save());
+    }
+    pair(random, chip, snapshot, one, two)
+}
+
+fn pair(
+    random: &mut Random,
+    chip: u8,
+    snapshot: Vec<u8>,
+    one: Vec<Event>,
+    two: Vec<Event>,
+) -> Pair {
+    Pair {
+        chip,
+        snapshot,
+        one,
+        two,
+        layout: random.next(),
+    }
+}
+
+fn painting(chip: u8, snapshot: &[u8], events: &[Event]) -> Vec<usize> {
+    // Shrinking keeps pairs accepted, so this isn't refused.
+    painting_accesses(snapshot, &log_bytes(chip, events)).unwrap_or_default()
+}
+
+/// For each painting access, the display events before it.
+fn displays_before(events: &[Event], painting: &[usize]) -> Vec<usize> {
+    painting
+        .iter()
+        .map(|&index| events[..index].iter().filter(|e| is_display(e)).count())
+        .collect()
+}
+
+/// One of the two runs, by the library.
+struct Played {
+    accesses: Vec<u8>,
+    ticks: Vec<u8>,
+    end: Vec<u8>,
+}
+
+impl Pair {
+    pub fn case(&self, events: &[Event]) -> Case {
+        Case {
+            snapshot: self.snapshot.clone(),
+            log: log_bytes(self.chip, events),
+            answers_len: ANSWER_BYTES * events.len(),
+            end_len: model::END_BUFFER_BYTES,
+            layout: self.layout,
+            null_if_empty: false,
+        }
+    }
+
+    fn play(&self, events: &[Event]) -> Result<Played, String> {
+        let outcome = self.case(events).run_library();
+        if outcome.result >> 16 != 0 {
+            return Err(format!("refused with {}", outcome.result >> 16));
+        }
+        let answers_to = |sort: fn(&Event) -> bool| -> Vec<u8> {
+            let answers = outcome.answers.chunks_exact(ANSWER_BYTES);
+            let wanted = events.iter().zip(answers).filter(|(event, _)| sort(event));
+            wanted.flat_map(|(_, answer)| answer.to_vec()).collect()
+        };
+        let length = (outcome.result as usize).min(outcome.end.len());
+        Ok(Played {
+            accesses: answers_to(is_access),
+            ticks: answers_to(is_tick),
+            end: outcome.end[..length].to_vec(),
+        })
+    }
+
+    /// Demand 3 on the library: what the pair showed, or what is wrong.
+    pub fn check(&self) -> Result<Held, String> {
+        let (one, two) = (self.play(&self.one)?, self.play(&self.two)?);
+        if one.accesses != two.accesses {
+            return Err("accesses that belong together are answered differently".into());
+        }
+        if one.end != two.end {
+            return Err("the end snapshots differ".into());
+        }
+        let displays = |events: &[Event]| {
+            displays_before(events, &painting(self.chip, &self.snapshot, events))
+        };
+        let painting_kept = displays(&self.one) == displays(&self.two);
+        let ticks_differ = one.ticks != two.ticks;
+        if painting_kept && ticks_differ {
+            return Err("ticks are answered differently although painting is kept".into());
+        }
+        Ok(Held {
+            painting_kept,
+            ticks_differ,
+        })
+    }
+
+    /// A smaller pair that still fails: events are taken out of both logs one
+    /// by one, each try being taken off `tries`.
+    pub fn shrunk(&self, tries: &mut usize) -> Pair {
+        let mut best = self.clone();
+        for sort in [is_access as fn(&Event) -> bool, is_display, is_save] {
+            let mut number = only(&best.one, sort).len().max(only(&best.two, sort).len());
+            while number > 0 && *tries > 0 {
+                number -= 1;
+                *tries -= 1;
+                let mut candidate = best.clone();
+                remove(&mut candidate.one, sort, number);
+                remove(&mut candidate.two, sort, number);
+                if candidate.check().is_err() {
+                    best = candidate;
+                }
+            }
+        }
+        best
+    }
+
+    /// The bytes of its inputs.
+    pub fn size(&self) -> usize {
+        self.snapshot.len() + 10 + 9 * (self.one.len() + self.two.len())
+    }
+
+    pub fn described(&self) -> String {
+        format!(
+            "  snapshot {}\n  log one {}\n  log two {}\n",
+            hexadecimal(&self.snapshot),
+            hexadecimal(&log_bytes(self.chip, &self.one)),
+            hexadecimal(&log_bytes(self.chip, &self.two))
+        )
+    }
+}
+
+fn is_save(event: &Event) -> bool {
+    event.kind == kind::SAVE
+}
+
+/// Takes the event with this number among its sort out of a log.
+fn remove(events: &mut Vec<Event>, sort: fn(&Event) -> bool, number: usize) {
+    let mut indices = (0..events.len()).filter(|&index| sort(&events[index]));
+    if let Some(index) = indices.nth(number) {
+        events.remove(index);
+    }
+}

@@ -4,3 +4,4 @@ pub mod Pairs
 pub mod Valid
 pub mod RoundTrip
 pub mod Parts
+pub mod Places

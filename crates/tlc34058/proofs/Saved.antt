@@ -5,17 +5,12 @@ use mathlib.Core.Path.{_≡_, refl, sym, _∙_, ap}
 use mathlib.Core.Bool.{Bool, true, false}
 use mathlib.Core.List.{List, [], _∷_, _++_}
 use native.Mathlib.Omega.{arith}
-use borrow.Author.Tests.{eqb-true, eq-eqb}
-use lib.Dec.{eqb}
 use lib.ListN.{length, getD, take, replicate, take-append-drop}
 use lib.Seq.{take-at, getD-append-add, getD-drop}
-use Rattle.laws.proofs.Tests.{cond-by}
 use Rattle.laws.proofs.Lists.{zeros-small, drop-list}
-use Rattle.snapshot.specs.Snapshot.{Valid, refusalOf, restored, restoredBy, resaved, snapshotOf}
+use Rattle.snapshot.specs.Snapshot.{Valid, refusalOf, restoredBy, resaved}
 use Rattle.snapshot.proofs.Parts.{Parts, each, parts-valid, valid-parts, places-parts}
-use Rattle.snapshot.proofs.RoundTrip.{restored-by-back, restored-by}
-use Rattle.snapshot.proofs.RoundTrip as codec
-use Rattle.snapshot.proofs.Valid.{restored-valid}
+use Rattle.snapshot.proofs.Places as layout
 use Rattle.tlc34058.specs.State.{State, fresh}
 use Rattle.tlc34058.specs.Places.{largest, tailOf, placesOf, stateFrom, saved, restore}
 use Rattle.tlc34058.proofs.Sound.{Sound}
@@ -82,14 +77,6 @@ sound-fresh = record {
   blink = omega arith;
 }
 
--- every restored state is sound
-pub sound-restore : (b : List ℕ) → Sound (restore b)
-unfolding restoredBy
-sound-restore b =
-    cond-by Sound (eqb (refusalOf 1 largest b) 0) _ _
-    (λ e. sound-from (restored (length largest) b) (restored-valid 1 largest b (eqb-true _ _ e)))
-    (λ e. sound-fresh)
-
 pub largest-long : length largest ≡ 789
 unfolding largest
 largest-long = refl
@@ -103,37 +90,43 @@ state-back s v =
     let at : (k : ℕ) → getD (s .port .colours ++ rest) (780 + k) 0 ≡ getD rest k 0 = λ k. rw long at (getD-append-add (s .port .colours) rest k 0) in
     simp (take-at (s .port .colours) rest 780 long, at 0, at 1, at 2, at 3, at 4, at 5, at 6, at 7, at 8)
 
--- a save leaves a sound state as it was
-pub saved-same : (s : State) → Sound s → restore (saved s) ≡ s
-saved-same s v =
-    restored-by-back 1 largest (placesOf s) stateFrom fresh (omega (arith, largest-long)) (valid s v) ∙ state-back s v
+-- the places of the state of 789 places are those places
+places-back : (l : List ℕ) → length l ≡ length largest → placesOf (stateFrom l) ≡ l
+unfolding placesOf stateFrom
+places-back l h = ap (λ r. take 780 l ++ r) (sym (drop-list l 780 9 (h ∙ largest-long))) ∙ take-append-drop 780 l
 
 fresh-from : stateFrom (replicate (length largest) 0) ≡ fresh
 unfolding stateFrom largest
 fresh-from = refl
 
--- a save of the places is a save of the state
-pub resaved-state : (s : State) → stateFrom (resaved 1 largest (placesOf s)) ≡ restore (saved s)
-resaved-state s =
-    restored-by 1 largest (saved s) (replicate (length largest) 0) stateFrom ∙ ap (λ f. restoredBy 1 largest stateFrom f (saved s)) fresh-from
+abbrev chipLayout : layout.Layout State
+chipLayout = record {
+  chip = 1;
+  table = largest;
+  places = placesOf;
+  from = stateFrom;
+  fresh = fresh;
+  few = omega (arith, largest-long);
+  fresh-from = fresh-from;
+  places-from = places-back;
+}
 
--- restoring the places is restoring the state
+-- every restored state is sound
+pub sound-restore : (b : List ℕ) → Sound (restore b)
+sound-restore = layout.restore-all chipLayout Sound sound-from sound-fresh
+
+-- a save leaves a sound state as it was
+pub saved-same : (s : State) → Sound s → restore (saved s) ≡ s
+saved-same s v = layout.saved-same chipLayout s (valid s v) (state-back s v)
+
+-- a save of the places is a save of the state, and restoring the places is restoring the state
+pub resaved-state : (s : State) → stateFrom (resaved 1 largest (placesOf s)) ≡ restore (saved s)
+resaved-state = layout.resaved-state chipLayout
+
 pub decoded-state : (b : List ℕ) → stateFrom (restoredBy 1 largest (λ l. l) (replicate 789 0) b) ≡ restore b
 unfolding largest
-decoded-state b = restored-by 1 largest b (replicate 789 0) stateFrom ∙ ap (λ f. restoredBy 1 largest stateFrom f b) fresh-from
-
--- the places of the state of 789 places are those places
-places-back : (l : List ℕ) → length l ≡ 789 → placesOf (stateFrom l) ≡ l
-unfolding placesOf stateFrom
-places-back l h = ap (λ r. take 780 l ++ r) (sym (drop-list l 780 9 h)) ∙ take-append-drop 780 l
-
-restore-accepted : (b : List ℕ) → refusalOf 1 largest b ≡ 0 → restore b ≡ stateFrom (restored (length largest) b)
-unfolding restoredBy
-restore-accepted b h = simp (eq-eqb _ _ h)
+decoded-state = layout.decoded-state chipLayout
 
 -- for every accepted snapshot, restoring and then saving gives the same bytes
 pub bytes-back : (b : List ℕ) → ((i : ℕ) → getD b i 0 < 256) → refusalOf 1 largest b ≡ 0 → saved (restore b) ≡ b
-bytes-back b small h =
-    let l : List ℕ = restored (length largest) b in
-    let long : length l ≡ 789 = restored-valid 1 largest b h .long ∙ largest-long in
-    ap saved (restore-accepted b h) ∙ ap (snapshotOf 1) (places-back l long) ∙ codec.bytes-back 1 largest b small h
+bytes-back = layout.bytes-back chipLayout

@@ -14,7 +14,7 @@ CRATES = crates.txt $(wildcard crates/*/src/* crates/*/specs/* crates/*/proofs/*
 # What the scripts and the comparison's build find the library by.
 export LIBPALETTE REPLAY CC
 
-.PHONY: run test prove lib replay examples compare-build compare fuzz test-c test-formats seeded bench install fmt clean
+.PHONY: run test prove lib replay examples compare-build compare time fuzz test-c test-formats seeded bench install fmt clean
 
 # The sample log, as the printing program prints it and as the restore tool shows it.
 run: $(REPLAY) examples
@@ -51,6 +51,10 @@ compare-build: $(LIBPALETTE)
 
 compare: compare-build $(REPLAY)
 	$(COMPARE) --replay $(REPLAY)
+
+# How long the library takes beside the second model.
+time: compare-build
+	$(COMPARE) --time
 
 fuzz: compare-build $(REPLAY)
 	$(COMPARE) --seconds $(SECONDS) --seed $(SEED) --replay $(REPLAY)

@@ -1,6 +1,8 @@
 // Snapshots: the places of a chip that aren't 0, as bytes, and back.
 ghost use mathlib.Core.Path.{_≡_};
+ghost use mathlib.Core.Bool.{cond};
 ghost use Prim.Native.Nat.{_+_, _*_, _<_, _≤_};
+ghost use lib.Dec.{eqb};
 ghost use lib.ListN.{length, replicate};
 ghost use lib.Seq.{sets};
 ghost use Rattle.snapshot.specs.Snapshot.{within as fits, numbersFrom, valuesOf, twoBytes, snapshotOf, over, wordAt, wordsOf, pairsRefusal, placed, refusalOf, resaved, Decoded};
@@ -22,6 +24,16 @@ pub fn within(largest: &[u8], places: &[u8]) -> bool
     true
 }
 
+// 1 where a place isn't 0.
+fn some(x: u8) -> usize
+    ensures { λ r. ⌜ (r ≡ cond (eqb x 0) 0 1) × (r ≤ 1) ⌝ }
+{
+    if x == 0 {
+        return 0;
+    }
+    1
+}
+
 // How many places aren't 0.
 fn count(places: &[u8]) -> usize
     ensures { λ r. ⌜ (r ≡ length (valuesOf (now (places .entry)))) × (r ≤ length (now (places .entry))) ⌝ }
@@ -29,23 +41,20 @@ fn count(places: &[u8]) -> usize
     let mut n: usize = 0;
     let mut i = 0;
     while i < places.len() {
-        if places[i] == 0 {
-            i += 1;
-            continue;
-        }
-        n += 1;
+        n += some(places[i]);
         i += 1;
     }
     n
 }
 
-// The numbers of the places that aren't 0, two bytes each, into out from at on.
-fn put_numbers(places: &[u8], out: &mut [u8], at: usize)
-    requires { ⌜ (length (now places) ≤ 65535) × (at + 2 * length (now places) ≤ length (now out)) ⌝ }
-    ensures { λ r. ⌜ now (out .exit) ≡ sets (now (out .entry)) at (twoBytes (numbersFrom 0 (now (places .entry)))) ⌝ }
+// The numbers of the n places that aren't 0, two bytes each, behind the header of out, and behind them their values.
+fn put_pairs(places: &[u8], out: &mut [u8], n: usize)
+    requires { ⌜ (length (now places) ≤ 65535) × (n ≡ length (valuesOf (now places))) × (3 + 3 * length (now places) ≤ length (now out)) ⌝ }
+    ensures { λ _. ⌜ now (out .exit) ≡ sets (sets (now (out .entry)) 3 (twoBytes (numbersFrom 0 (now (places .entry))))) (3 + 2 * n) (valuesOf (now (places .entry))) ⌝ }
 {
     let mut i = 0;
-    let mut k = at;
+    let mut k: usize = 3;
+    let mut v = 3 + 2 * n;
     while i < places.len() {
         if places[i] == 0 {
             i += 1;
@@ -53,25 +62,9 @@ fn put_numbers(places: &[u8], out: &mut [u8], at: usize)
         }
         out[k] = (i % 256) as u8;
         out[k + 1] = (i / 256 % 256) as u8;
+        out[v] = places[i];
         k += 2;
-        i += 1;
-    }
-}
-
-// The values that aren't 0, into out from at on.
-fn put_values(places: &[u8], out: &mut [u8], at: usize)
-    requires { ⌜ at + length (now places) ≤ length (now out) ⌝ }
-    ensures { λ r. ⌜ now (out .exit) ≡ sets (now (out .entry)) at (valuesOf (now (places .entry))) ⌝ }
-{
-    let mut i = 0;
-    let mut k = at;
-    while i < places.len() {
-        if places[i] == 0 {
-            i += 1;
-            continue;
-        }
-        out[k] = places[i];
-        k += 1;
+        v += 1;
         i += 1;
     }
 }
@@ -85,8 +78,7 @@ pub fn encode(chip: u8, places: &[u8], out: &mut [u8]) -> usize
     out[0] = chip;
     out[1] = (n % 256) as u8;
     out[2] = (n / 256 % 256) as u8;
-    put_numbers(places, out, 3);
-    put_values(places, out, 3 + 2 * n);
+    put_pairs(places, out, n);
     3 + 3 * n
 }
 

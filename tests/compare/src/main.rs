@@ -3,6 +3,7 @@
 //! compares the printing program's output with the model's.
 //!
 //! compare [--seconds N] [--seed S] [--replay PATH] [--tries N] [--trace]
+//! compare --time [--seed S]
 
 mod case;
 mod classes;
@@ -15,6 +16,7 @@ mod report;
 mod sheets;
 mod shrink;
 mod shuffle;
+mod time;
 
 use case::{claimed_count, described, Case};
 use classes::{Class, Sweep, RANDOM, SWEEPS};
@@ -33,7 +35,8 @@ const DEFAULT_SEED: u64 = 0x7A19_E261;
 /// Tries that may be spent on making failing cases small, in all and on one.
 const DEFAULT_TRIES: usize = 12_000;
 const TRIES_FOR_ONE: usize = 4_000;
-const USAGE: &str = "compare [--seconds N] [--seed S] [--replay PATH] [--tries N] [--trace]";
+const USAGE: &str =
+    "compare [--seconds N] [--seed S] [--replay PATH] [--tries N] [--trace] | compare --time [--seed S]";
 
 /// A pair whose ticks differ, so the painting condition is seen to matter.
 const CONDITION_MATTERS: &str = "demand 3: painting not kept, a tick differs";
@@ -45,6 +48,7 @@ struct Options {
     replay: Option<PathBuf>,
     tries: usize,
     trace: bool,
+    time: bool,
 }
 
 fn number(text: &str) -> Option<u64> {
@@ -61,6 +65,7 @@ fn options(mut arguments: impl Iterator<Item = String>) -> Option<Options> {
         replay: None,
         tries: DEFAULT_TRIES,
         trace: false,
+        time: false,
     };
     while let Some(argument) = arguments.next() {
         match argument.as_str() {
@@ -69,6 +74,7 @@ fn options(mut arguments: impl Iterator<Item = String>) -> Option<Options> {
             "--replay" => options.replay = Some(arguments.next()?.into()),
             "--tries" => options.tries = number(&arguments.next()?)? as usize,
             "--trace" => options.trace = true,
+            "--time" => options.time = true,
             _ => return None,
         }
     }
@@ -270,6 +276,10 @@ fn main() -> ExitCode {
         None => {
             eprintln!("usage: {USAGE}");
             ExitCode::from(2)
+        }
+        Some(options) if options.time => {
+            time::report(options.seed);
+            ExitCode::SUCCESS
         }
         Some(options) if compared(&options) => ExitCode::SUCCESS,
         Some(_) => ExitCode::FAILURE,

@@ -2,13 +2,10 @@
 -- Assumes nothing.
 use Rattle.snapshot.proofs.Stores.{snapshot-long, snapshot-stored}
 use Rattle.snapshot.specs.Snapshot.{valuesOf}
-use mathlib.Core.List.{List}
-use lib.Seq.{sets}
-use Prim.Native.Nat.{ℕ, _+_, _*_}
 use denote.Ref.{now}
-use mathlib.Core.Path.{_≡_, _∙_, ap}
-use native.Mathlib.Omega.{arith}
 use lib.ListN.{length, length-set}
+use mathlib.Core.Path.{_≡_, _∙_}
+use native.Mathlib.Omega.{arith}
 use borrow.Author.Needs.{needs}
 use Rattle.snapshot.proofs.encode.Statement.{statement}
 use Rattle.snapshot.proofs.encode.Tie as tie
@@ -23,30 +20,16 @@ cast-out : tie.Need-cast-out
 cast-out c = search needs
 
 slice-write-out-2 : tie.Need-slice-write-out-2
-slice-write-out-2 c =
-    simp length-set (omega arith)
+slice-write-out-2 c = simp length-set (omega arith)
 
 cast-out-2 : tie.Need-cast-out-2
 cast-out-2 c = search needs
 
 slice-write-out-3 : tie.Need-slice-write-out-3
-slice-write-out-3 c =
-    simp length-set (omega arith)
+slice-write-out-3 c = simp length-set (omega arith)
 
-put-numbers-requires : tie.Need-put-numbers-requires
-put-numbers-requires c κs =
-    (omega arith, simp length-set (omega arith))
-
-mul-put-values : tie.Need-mul-put-values
-mul-put-values c = search needs
-
-add-put-values : tie.Need-add-put-values
-add-put-values c = search needs
-
-put-values-requires : tie.Need-put-values-requires
-put-values-requires c κs =
-    let put-numbers = c .before .before .before .put-numbers in
-    omega (arith, simp length-set at (put-numbers .kept .1 .0))
+put-pairs-requires : tie.Need-put-pairs-requires
+put-pairs-requires c κs = search needs
 
 mul-result : tie.Need-mul-result
 mul-result c = search needs
@@ -56,23 +39,18 @@ add-result c = search needs
 
 same-length : tie.Need-same-length
 same-length c =
-    let put-numbers = c .before .before .before .before .before .before .put-numbers in
-    let put-values = c .before .before .put-values in
-    omega (arith, simp length-set at (put-numbers .kept .1 .0), put-values .kept .1 .0)
+    let put-pairs = c .before .before .put-pairs in
+    omega (arith, simp length-set at (put-pairs .kept .1 .0))
 
 returns : tie.Need-returns
 returns c =
-    let args = c .before .before .before .before .before .before .before .before .before .before .before .args in
-    let pre = c .before .before .before .before .before .before .before .before .before .before .before .pre in
-    let count = c .before .before .before .before .before .before .before .before .count in
-    let put-numbers = c .before .before .before .before .before .before .put-numbers in
-    let put-values = c .before .before .put-values in
+    let args = c .before .before .before .before .before .before .before .args in
+    let pre = c .before .before .before .before .before .before .before .pre in
+    let count = c .before .before .before .before .count in
+    let put-pairs = c .before .before .put-pairs in
     let l = now (args .places) in
-    let n : count .result ≡ length (valuesOf l) = count .ensures .0 in (
-      omega (arith, snapshot-long (args .chip) l, n),
-      put-values .ensures ∙ ap (λ (o : List ℕ). sets o (3 + 2 * count .result) (valuesOf l)) (put-numbers .ensures)
-          ∙ snapshot-stored (now (args .out)) l (args .chip) (count .result) (omega (arith, pre)) n,
-    )
+    let n : count .result ≡ length (valuesOf l) = count .ensures .0 in
+    (omega (arith, snapshot-long (args .chip) l, n), put-pairs .ensures ∙ snapshot-stored (now (args .out)) l (args .chip) (count .result) (omega (arith, pre)) n)
 
 pub encode-spec : {M : Type 1} → statement M
 encode-spec =
@@ -84,10 +62,7 @@ encode-spec =
     slice-write-out-2
     cast-out-2
     slice-write-out-3
-    put-numbers-requires
-    mul-put-values
-    add-put-values
-    put-values-requires
+    put-pairs-requires
     mul-result
     add-result
     same-length

@@ -1,0 +1,16 @@
+-- `some` meets its contract.
+-- Assumes nothing.
+use borrow.Author.Tests.{eq-eqb, ne-eqb}
+use mathlib.Core.Path.{sym}
+use native.Mathlib.Omega.{arith}
+use Rattle.snapshot.proofs.some.Statement.{statement}
+use Rattle.snapshot.proofs.some.Tie as tie
+
+returns : tie.Need-returns
+returns c = (sym (simp (eq-eqb _ _ (c .if1 .taken))), omega arith)
+
+returns-2 : tie.Need-returns-2
+returns-2 c = (sym (simp (ne-eqb _ _ (c .if1 .left))), omega arith)
+
+pub some-spec : {M : Type 1} → statement M
+some-spec = tie.close (tie.spec returns returns-2)

@@ -1,0 +1,3 @@
+-- Laws of the printing program.
+-- Assumes nothing.
+pub mod Laws

@@ -1,0 +1,3 @@
+-- What the printing program plays and prints.
+-- Assumes nothing.
+pub mod Printed

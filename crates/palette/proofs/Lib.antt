@@ -5,3 +5,4 @@ pub mod Refusals
 pub mod Whole
 pub mod Demand3
 pub mod Demand1
+pub mod Pieces

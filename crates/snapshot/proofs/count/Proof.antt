@@ -46,6 +46,9 @@ loop-again c =
     let e = counted-more l (loop .i) (loop-test .taken) in
     (omega (arith, loop-test .taken), omega (arith, some .ensures .1), omega (arith, some .ensures .0, loop .inv .2))
 
+cast-result : tie.Need-cast-result Inv-loop μ-loop
+cast-result c = omega arith
+
 returns : tie.Need-returns Inv-loop μ-loop
 returns c =
     let loop = c .before .loop in
@@ -68,4 +71,5 @@ count-spec =
     add-i
     loop-less
     loop-again
+    cast-result
     returns)

@@ -102,7 +102,7 @@ fn after_read(c: Control, selector: u8) -> Control
     if selector == 1 {
         return with_cursor(c, cursor.next());
     }
-    c
+    c // nothing moves
 }
 
 pub fn read(colours: &[u8], c: Control, selector: u8, part: &mut [u8]) -> Control

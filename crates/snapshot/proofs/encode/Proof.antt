@@ -38,9 +38,7 @@ add-result : tie.Need-add-result
 add-result c = search needs
 
 same-length : tie.Need-same-length
-same-length c =
-    let put-pairs = c .before .before .put-pairs in
-    omega (arith, simp length-set at (put-pairs .kept .1 .0))
+same-length c = omega (arith, simp length-set at (c .before .before .put-pairs .kept .1 .0))
 
 returns : tie.Need-returns
 returns c =

@@ -5,7 +5,7 @@ use mathlib.Core.Bool.{Bool, true, false, not, _&&_, _||_}
 use mathlib.Core.List.{List, [], _∷_}
 use lib.Dec.{T, eqb}
 use lib.ListN.{replicate}
-use Rattle.event.specs.Event.{Raw}
+use Rattle.event.specs.Table.{all, AccessRow, accessBy, agrees}
 use Rattle.hd153129.specs.State.{State}
 use Rattle.hd153129.specs.Port.{accessRefusal, requestWrite, requestRead, request, altersDisplay}
 
@@ -15,17 +15,19 @@ paints kind selector direction position =
     eqb kind 0 && ((eqb selector 1 && (not (eqb direction 1) && eqb position 2)) || eqb selector 2)
 
 -- an access in a direction at a position
-pub record Row : Type 0 where
-  pub kind : ℕ
-  pub selector : ℕ
-  pub direction : ℕ
-  pub position : ℕ
-  pub alters : Bool
+abbrev pub row : ℕ → ℕ → ℕ → ℕ → Bool → AccessRow State
+row kind selector direction position alters = record {
+  state = record {
+    colours = replicate 768 0;
+    cursor = record { address = 5; position = position; heldRed = 0; heldGreen = 0 };
+    direction = direction;
+    mask = 0;
+  };
+  access = accessBy kind selector;
+  alters = alters;
+}
 
-abbrev pub row : ℕ → ℕ → ℕ → ℕ → Bool → Row
-row kind selector direction position alters = record { kind = kind; selector = selector; direction = direction; position = position; alters = alters }
-
-unfoldable pub table : List Row
+unfoldable pub table : List (AccessRow State)
 table =
     -- the end of a triple, and the mask in either direction
     row 0 1 0 2 true
@@ -46,31 +48,7 @@ table =
     ∷ row 1 3 1 2 false
     ∷ []
 
-abbrev pub stateAt : ℕ → ℕ → State
-stateAt direction position = record {
-  colours = replicate 768 0;
-  cursor = record { address = 5; position = position; heldRed = 0; heldGreen = 0 };
-  direction = direction;
-  mask = 0;
-}
-
-abbrev pub eventOf : Row → Raw
-eventOf r = record { kind = r .kind; operand = r .selector ∷ replicate 7 0 }
-
-abbrev pub same : Bool → Bool → Bool
-same true b = b
-same false b = not b
-
-unfoldable pub holds : Row → Bool
-holds r =
-    let s : State = stateAt (r .direction) (r .position) in
-    same (r .alters) (altersDisplay s (request s (eventOf r)))
-
-abbrev pub all : List Row → Bool
-all [] = true
-all (r ∷ rs) = holds r && all rs
-
 -- every row holds
-pub rows : T (all table)
-unfolding table holds request requestWrite requestRead accessRefusal
+pub rows : T (all (agrees (λ s e. altersDisplay s (request s e))) table)
+unfolding table request requestWrite requestRead accessRefusal
 rows = tt

@@ -62,6 +62,6 @@ pub fn save(colours: &mut [u8], c: Control) -> Control
     let mut places = places_of(colours, c);
     let t = largest();
     snapshot::save_places(2, &t, &mut places);
-    snapshot::copy(&places[0..768], colours);
+    snapshot::fill(&places, colours);
     control_from(places)
 }

@@ -7,6 +7,7 @@ use lib.Dec.{T, eqb}
 use lib.ListN.{getD, replicate}
 use Rattle.interleaving.specs.Log.{answers, end}
 use Rattle.event.specs.Event.{Raw}
+use Rattle.event.specs.Table.{all}
 use Rattle.colour.specs.Colour as colour
 use Rattle.tlc34058.specs.State as state₁
 use Rattle.tlc34058.specs.Port as port₁
@@ -74,10 +75,6 @@ holds row =
     let last : List ℕ = lastOf (answers chip (row .start) l) in
     same (nonzero 0 (placesOf (end chip (row .start) l))) (row .places) && (eqb (getD last 0 0) (row .refused) && eqb (getD last 1 0) (row .byte))
 
-abbrev pub all : List Row → Bool
-all [] = true
-all (r ∷ rs) = holds r && all rs
-
 unfoldable pub table : List Row
 table =
     -- M1: address FFh, palette 10h 20h 30h: entry 255 is that, address 00h
@@ -108,6 +105,6 @@ table =
     ∷ two (write 0 5 ∷ write 1 1 ∷ read 0 ∷ []) (at 768 5 ∷ at 769 1 ∷ at 771 1 ∷ []) 0 5
     ∷ []
 
-pub marked : T (all table)
+pub marked : T (all holds table)
 unfolding table holds places₁.placesOf places₂.placesOf port₁.accessRefusal port₁.select port₁.request port₁.register port₁.withRegister port₂.accessRefusal port₂.requestWrite port₂.requestRead port₂.request colour.onward colour.held colour.stored
 marked = tt

@@ -3,7 +3,7 @@ ghost use mathlib.Core.Path.{_≡_};
 ghost use mathlib.Core.Bool.{cond};
 ghost use Prim.Native.Nat.{_+_, _*_, _<_, _≤_};
 ghost use lib.Dec.{eqb};
-ghost use lib.ListN.{length, replicate};
+ghost use lib.ListN.{length, take, replicate};
 ghost use lib.Seq.{sets};
 ghost use Rattle.snapshot.specs.Snapshot.{within as fits, numbersFrom, valuesOf, twoBytes, snapshotOf, over, wordAt, wordsOf, pairsRefusal, placed, refusalOf, resaved, Decoded};
 
@@ -209,4 +209,13 @@ pub fn copy(from: &[u8], to: &mut [u8])
         to[i] = from[i];
         i += 1;
     }
+}
+
+// Copies the start of from over all of to.
+pub fn fill(from: &[u8], to: &mut [u8])
+    requires { ⌜ length (now to) ≤ length (now from) ⌝ }
+    ensures { λ _. ⌜ now (to .exit) ≡ take (length (now (to .entry))) (now (from .entry)) ⌝ }
+{
+    let n = to.len();
+    copy(&from[0..n], to);
 }

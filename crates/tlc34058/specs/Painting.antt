@@ -5,7 +5,7 @@ use mathlib.Core.Bool.{Bool, true, false, not, _&&_, _||_}
 use mathlib.Core.List.{List, [], _∷_}
 use lib.Dec.{T, eqb, ltb}
 use lib.ListN.{replicate}
-use Rattle.event.specs.Event.{Raw, operandAt}
+use Rattle.event.specs.Table.{all, AccessRow, accessBy, agrees}
 use Rattle.tlc34058.specs.State.{Port}
 use Rattle.tlc34058.specs.Port.{accessRefusal, select, request, altersDisplay}
 
@@ -18,17 +18,18 @@ paints kind selector address position =
     || (eqb selector 2 && (eqb address 4 || (eqb address 5 || eqb address 6)))))
 
 -- an access at an address and a position
-pub record Row : Type 0 where
-  pub kind : ℕ
-  pub selector : ℕ
-  pub address : ℕ
-  pub position : ℕ
-  pub alters : Bool
+abbrev pub row : ℕ → ℕ → ℕ → ℕ → Bool → AccessRow Port
+row kind selector address position alters = record {
+  state = record {
+    colours = replicate 780 0;
+    cursor = record { address = address; position = position; heldRed = 0; heldGreen = 0 };
+    registers = record { readMask = 0; blinkMask = 0; command = 0; test = 0 };
+  };
+  access = accessBy kind selector;
+  alters = alters;
+}
 
-abbrev pub row : ℕ → ℕ → ℕ → ℕ → Bool → Row
-row kind selector address position alters = record { kind = kind; selector = selector; address = address; position = position; alters = alters }
-
-unfoldable pub table : List Row
+unfoldable pub table : List (AccessRow Port)
 table =
     -- the end of a palette triple and of an overlay triple; registers 04h, 05h, 06h
     row 0 1 0 2 true
@@ -57,30 +58,7 @@ table =
     ∷ row 1 3 2 2 false
     ∷ []
 
-abbrev pub portAt : ℕ → ℕ → Port
-portAt address position = record {
-  colours = replicate 780 0;
-  cursor = record { address = address; position = position; heldRed = 0; heldGreen = 0 };
-  registers = record { readMask = 0; blinkMask = 0; command = 0; test = 0 };
-}
-
-abbrev pub eventOf : Row → Raw
-eventOf r = record { kind = r .kind; operand = r .selector ∷ replicate 7 0 }
-
-abbrev pub same : Bool → Bool → Bool
-same true b = b
-same false b = not b
-
-unfoldable pub holds : Row → Bool
-holds r =
-    let p : Port = portAt (r .address) (r .position) in
-    same (r .alters) (altersDisplay p (request p (eventOf r)))
-
-abbrev pub all : List Row → Bool
-all [] = true
-all (r ∷ rs) = holds r && all rs
-
 -- every row holds
-pub rows : T (all table)
-unfolding table holds request select accessRefusal
+pub rows : T (all (agrees (λ p e. altersDisplay p (request p e))) table)
+unfolding table request select accessRefusal
 rows = tt

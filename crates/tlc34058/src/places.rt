@@ -66,6 +66,6 @@ pub fn save(colours: &mut [u8], c: Control) -> Control
     let mut places = places_of(colours, c);
     let t = largest();
     snapshot::save_places(1, &t, &mut places);
-    snapshot::copy(&places[0..780], colours);
+    snapshot::fill(&places, colours);
     control_from(places)
 }

@@ -65,10 +65,11 @@ test-c: $(LIBPALETTE)
 test-formats: $(LIBPALETTE)
 	tests/formats
 
-# Mistakes seeded into copies of the model and of the plain program: each must be caught.
-seeded:
+# Mistakes seeded into copies of the model, of the plain program and of the crates' code: each must be caught.
+seeded: compare-build
 	tests/seeded-mistakes
 	tests/seeded-bugs
+	tests/seeded-code
 
 target/bench/bench: bench/bench.c bench/plain.c bench/plain.h include/palette.h $(LIBPALETTE)
 	@mkdir -p $(@D)

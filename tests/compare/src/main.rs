@@ -4,6 +4,7 @@
 //!
 //! compare [--seconds N] [--seed S] [--replay PATH] [--tries N] [--trace]
 //! compare --time [--seed S]
+//! compare --write DIR [--seed S]
 
 mod case;
 mod classes;
@@ -28,6 +29,7 @@ use shuffle::{Shuffle, SHUFFLES};
 use std::path::{Path, PathBuf};
 use std::process::ExitCode;
 use std::time::{Duration, Instant};
+use std::{fs, io};
 
 /// Rounds of the random classes when no time is given.
 const ROUNDS: u64 = 30;
@@ -36,7 +38,7 @@ const DEFAULT_SEED: u64 = 0x7A19_E261;
 const DEFAULT_TRIES: usize = 12_000;
 const TRIES_FOR_ONE: usize = 4_000;
 const USAGE: &str =
-    "compare [--seconds N] [--seed S] [--replay PATH] [--tries N] [--trace] | compare --time [--seed S]";
+    "compare [--seconds N] [--seed S] [--replay PATH] [--tries N] [--trace] | compare --time [--seed S] | compare --write DIR [--seed S]";
 
 /// A pair whose ticks differ, so the painting condition is seen to matter.
 const CONDITION_MATTERS: &str = "demand 3: painting not kept, a tick differs";
@@ -49,6 +51,7 @@ struct Options {
     tries: usize,
     trace: bool,
     time: bool,
+    write: Option<PathBuf>,
 }
 
 fn number(text: &str) -> Option<u64> {
@@ -66,6 +69,7 @@ fn options(mut arguments: impl Iterator<Item = String>) -> Option<Options> {
         tries: DEFAULT_TRIES,
         trace: false,
         time: false,
+        write: None,
     };
     while let Some(argument) = arguments.next() {
         match argument.as_str() {
@@ -75,6 +79,7 @@ fn options(mut arguments: impl Iterator<Item = String>) -> Option<Options> {
             "--tries" => options.tries = number(&arguments.next()?)? as usize,
             "--trace" => options.trace = true,
             "--time" => options.time = true,
+            "--write" => options.write = Some(arguments.next()?.into()),
             _ => return None,
         }
     }
@@ -271,12 +276,34 @@ fn compared(options: &Options) -> bool {
     comparison.report.verdict()
 }
 
+/// Writes the sample logs, and what the model prints for each, as NAME.log and
+/// NAME.txt.
+fn write_samples(seed: u64, directory: &Path) -> io::Result<()> {
+    fs::create_dir_all(directory)?;
+    for (name, log) in replay::samples(&mut Random::seeded(seed)) {
+        fs::write(directory.join(format!("{name}.log")), &log)?;
+        fs::write(directory.join(format!("{name}.txt")), model::printed(&log))?;
+    }
+    Ok(())
+}
+
 fn main() -> ExitCode {
     match options(std::env::args().skip(1)) {
         None => {
             eprintln!("usage: {USAGE}");
             ExitCode::from(2)
         }
+        Some(Options {
+            write: Some(directory),
+            seed,
+            ..
+        }) => match write_samples(seed, &directory) {
+            Ok(()) => ExitCode::SUCCESS,
+            Err(fault) => {
+                eprintln!("{}: {fault}", directory.display());
+                ExitCode::FAILURE
+            }
+        },
         Some(options) if options.time => {
             time::report(options.seed);
             ExitCode::SUCCESS

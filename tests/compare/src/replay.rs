@@ -82,6 +82,23 @@ fn in_pieces(random: &mut Random, number: usize) -> (Vec<u8>, usize) {
     (bytes, random.pick(&[1, 2, 3, 7, 19, 4097]))
 }
 
+/// Logs for a run without proof, which an interpreter plays too: each chip's
+/// accepted log, then logs with each refusal.
+pub fn samples(random: &mut Random) -> Vec<(String, Vec<u8>)> {
+    let mut samples = Vec::new();
+    for chip in [1, 2] {
+        let events = random.events(chip, 1_000);
+        samples.push((format!("accepted-chip-{chip}"), log_bytes(chip, &events)));
+    }
+    for refusal in 10..=15 {
+        for chip in [1, 2] {
+            let name = format!("refused-{refusal}-chip-{chip}");
+            samples.push((name, damaged_log(random, chip, refusal)));
+        }
+    }
+    samples
+}
+
 /// Writes the input in pieces. A program that has seen enough may stop
 /// reading, so a broken pipe is no fault.
 fn feed(mut pipe: impl Write, bytes: &[u8], piece: usize) -> io::Result<()> {

@@ -27,13 +27,16 @@ test:
 prove:
 	rt check
 
+# The prover says hundreds of lines: they go to target/NAME.say, and are shown only if it refuses something.
+quietly = @mkdir -p target && echo "$(1), what the prover says in target/$(2).say" && { $(3) >target/$(2).say 2>&1 || { cat target/$(2).say; false; }; }
+
 lib: $(LIBPALETTE)
 $(LIBPALETTE): $(CRATES)
-	rt staticlib palette
+	$(call quietly,proving and building the library,lib,rt staticlib palette)
 
 replay: $(REPLAY)
 $(REPLAY): $(CRATES)
-	rt check replay
+	$(call quietly,proving and building the printing program,replay,rt check replay)
 
 target/examples/%.log: examples/%.txt examples/assemble
 	@mkdir -p $(@D)

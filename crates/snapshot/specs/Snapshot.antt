@@ -23,6 +23,13 @@ pub record Valid (largest places : List ℕ) : Type 0 where
 
 -- ---- places to bytes
 
+-- the most places that a chip has, and the bytes of a snapshot of so many
+abbrev pub mostPlaces : ℕ
+mostPlaces = 789
+
+abbrev pub mostBytes : ℕ
+mostBytes = 3 + 3 * mostPlaces
+
 -- x in front of l, left out where the test holds
 abbrev pub unless : Bool → ℕ → List ℕ → List ℕ
 unless true x l = l

@@ -1,6 +1,7 @@
-use Rattle.snapshot.proofs.RoundTrip.{resaved-from}
 -- `save_places` meets its contract.
 -- Assumes nothing.
+use Rattle.snapshot.specs.Snapshot.{mostBytes}
+use Rattle.snapshot.proofs.RoundTrip.{resaved-from}
 use Rattle.snapshot.proofs.Stores.{snapshot-long, values-short}
 use denote.Ref.{now}
 use lib.ListN.{replicate}
@@ -47,7 +48,7 @@ returns c =
     let clear = c .before .before .before .before .before .before .before .before .clear in
     let pre = c .before .before .before .before .before .before .before .before .before .before .before .before .before .before .before .before .pre in
     decode .ensures .left
-    ∙ resaved-from (args .chip) (encode .result) (now (args .largest)) (now (args .places)) (replicate 2370 0) (encode .last .1 .1 .0) (clear .last .0) (pre .0) (encode .ensures .0) (encode .ensures .1) (clear .ensures)
+    ∙ resaved-from (args .chip) (encode .result) (now (args .largest)) (now (args .places)) (replicate mostBytes 0) (encode .last .1 .1 .0) (clear .last .0) (pre .0) (encode .ensures .0) (encode .ensures .1) (clear .ensures)
 
 pub save-places-spec : {M : Type 1} → statement M
 save-places-spec =

@@ -1,6 +1,6 @@
-use lib.Dec.{eqb}
 -- `Cursor::write` meets its contract.
 -- Assumes nothing.
+use lib.Dec.{eqb}
 use Rattle.colour.specs.Colour.{held, stored}
 use lib.ListN.{length-set}
 use borrow.Author.Tests.{eq-eqb, ne-eqb}

@@ -1,6 +1,6 @@
-use lib.Seq.{sets}
 -- `places_of` meets its contract.
 -- Assumes nothing.
+use lib.Seq.{sets}
 use Rattle.tlc34058.specs.Struct.{joined}
 use Rattle.tlc34058.specs.Places.{tailOf, placesOf}
 use Rattle.laws.proofs.Lists.{stored-behind}

@@ -1,4 +1,5 @@
--- Laws of the state that is either chip. Crates above cite Shuffled and RoundTrip.
+-- Laws of the state that is either chip.
 pub mod Named
 pub mod Shuffled
 pub mod RoundTrip
+pub mod Fits

@@ -1,7 +1,7 @@
 -- The state by its chip byte: what a snapshot, a save and an event come to.
 -- Assumes nothing.
 use Prim.Native.Nat.{ℕ, _≤_, _<_}
-use mathlib.Core.Path.{_≡_, refl, sym, _∙_, ap}
+use mathlib.Core.Path.{_≡_, refl, sym, _∙_, ap, subst}
 use mathlib.Core.Bool.{Bool, true, false, cond}
 use mathlib.Core.List.{List}
 use borrow.Author.Tests.{eq-eqb, ne-eqb, lt-ltb, le-ltb, ltb-false, eqb-true, eqb-false}
@@ -82,21 +82,37 @@ module _ (b : List ℕ) where
   unfolding restore
   restore-refused h = simp (ne-eqb _ _ h)
 
-  fresh-one : eqb (refusalOf 1 places₁.largest b) 0 ≡ false → places₁.restore b ≡ state₁.fresh
+  fresh-one : eqb (refusalOf 1 places₁.largest b) 0 ≡ false → places₁.decodedOrFresh b ≡ state₁.fresh
   unfolding restoredBy
   fresh-one h = simp h
 
   -- a refused restore of chip 1 gives a fresh chip 1 by itself
-  pub restore-one : 3 ≤ length b → getD b 0 0 ≡ 1 → restore b ≡ tlc34058 (places₁.restore b)
+  pub restore-one : 3 ≤ length b → getD b 0 0 ≡ 1 → restore b ≡ tlc34058 (places₁.decodedOrFresh b)
   unfolding restore
   restore-one h e =
-      decide (restore b ≡ tlc34058 (places₁.restore b)) (eqb (refusalOf 1 places₁.largest b) 0)
+      decide (restore b ≡ tlc34058 (places₁.decodedOrFresh b)) (eqb (refusalOf 1 places₁.largest b) 0)
       (λ y. simp (eq-eqb _ _ (sym (refusal-one h e) ∙ eqb-true _ _ y), eq-eqb _ _ e))
       (λ n. restore-refused (λ z. eqb-false _ _ n (refusal-one h e ∙ z)) ∙ ap tlc34058 (sym (fresh-one n)))
 
-  pub restore-two : 3 ≤ length b → (getD b 0 0 ≡ 1 → ⊥) → getD b 0 0 ≡ 2 → refusalOf 2 places₂.largest b ≡ 0 → restore b ≡ hd153129 (places₂.restore b)
+  pub restore-two : 3 ≤ length b → (getD b 0 0 ≡ 1 → ⊥) → getD b 0 0 ≡ 2 → refusalOf 2 places₂.largest b ≡ 0 → restore b ≡ hd153129 (places₂.decodedOrFresh b)
   unfolding restore
   restore-two h o e z = simp (eq-eqb _ _ (sym (refusal-two h o e) ∙ z), ne-eqb _ _ o)
+
+-- an accepted snapshot, by the chip that it names
+pub restore-by : (P : State → Type 0) (b : List ℕ) → snapshotRefusal b ≡ 0
+    → (getD b 0 0 ≡ 1 → refusalOf 1 places₁.largest b ≡ 0 → P (tlc34058 (places₁.decodedOrFresh b)))
+    → (getD b 0 0 ≡ 2 → refusalOf 2 places₂.largest b ≡ 0 → P (hd153129 (places₂.decodedOrFresh b)))
+    → P (restore b)
+unfolding snapshotRefusal
+restore-by P b h f g =
+    let header : 3 ≤ length b = ltb-false _ _ (passed (ltb (length b) 3) 20 _ (eqb-false 20 0 refl) h .0) in
+    let chips = passed (ltb (length b) 3) 20 _ (eqb-false 20 0 refl) h .1 in
+    decide (P (restore b)) (eqb (getD b 0 0) 1)
+    (λ y. let one = eqb-true _ _ y in
+    subst P (sym (restore-one b header one)) (f one (simp y at chips)))
+    (λ n. let two = needed (eqb (getD b 0 0) 2) _ 21 (eqb-false 21 0 refl) (simp n at chips) in
+    let is = eqb-true _ _ (two .0) in
+    subst P (sym (restore-two b header (eqb-false _ _ n) is (two .1))) (g is (two .1)))
 
 -- ---- saves
 

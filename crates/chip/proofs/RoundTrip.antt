@@ -1,18 +1,14 @@
 -- Saving and then restoring gives the same state; for every accepted snapshot restoring and then saving gives the same bytes.
 -- Assumes nothing.
-use Prim.Native.Nat.{ℕ, _≤_, _<_}
+use Prim.Native.Nat.{ℕ}
 use mathlib.Core.Path.{_≡_, refl, sym, _∙_, ap}
-use mathlib.Core.Bool.{Bool, true, false, cond}
-use mathlib.Core.List.{List, [], _∷_}
+use mathlib.Core.List.{List}
 use native.Mathlib.Omega.{arith}
-use borrow.Author.Tests.{eq-eqb, ne-eqb, eqb-true, eqb-false, ltb-false}
-use lib.Dec.{eqb, ltb}
 use lib.ListN.{length, getD}
-use Rattle.laws.proofs.Tests.{decide, passed, needed}
-use Rattle.snapshot.specs.Snapshot.{Valid, refusalOf, restored, restoredBy, snapshotOf}
+use Rattle.laws.specs.Bytes.{AllBytes}
+use Rattle.snapshot.specs.Snapshot.{refusalOf}
 use Rattle.snapshot.proofs.RoundTrip as codec
 use Rattle.snapshot.proofs.Pairs.{accepted}
-use Rattle.snapshot.proofs.Valid.{restored-valid}
 use Rattle.tlc34058.specs.State as state₁
 use Rattle.tlc34058.specs.Places as places₁
 use Rattle.tlc34058.proofs.Saved as saved₁
@@ -20,7 +16,7 @@ use Rattle.hd153129.specs.State as state₂
 use Rattle.hd153129.specs.Places as places₂
 use Rattle.hd153129.proofs.Saved as saved₂
 use Rattle.chip.specs.Chip.{State, tlc34058, hd153129, unbuilt, snapshotRefusal, restore, saved}
-use Rattle.chip.proofs.Named.{refusal-one, refusal-two, restore-one, restore-two}
+use Rattle.chip.proofs.Named.{refusal-one, refusal-two, restore-one, restore-two, restore-by}
 use Rattle.chip.proofs.Shuffled.{Sound}
 
 -- ---- saving, then restoring
@@ -70,15 +66,5 @@ state-back (unbuilt n) v = absurd v
 -- ---- restoring, then saving
 
 -- for every accepted snapshot, restoring and then saving gives the same bytes
-pub bytes-back : (b : List ℕ) → ((i : ℕ) → getD b i 0 < 256) → snapshotRefusal b ≡ 0 → saved (restore b) ≡ b
-unfolding snapshotRefusal
-bytes-back b small h =
-    let header : 3 ≤ length b = ltb-false _ _ (passed (ltb (length b) 3) 20 _ (eqb-false 20 0 refl) h .0) in
-    let chips = passed (ltb (length b) 3) 20 _ (eqb-false 20 0 refl) h .1 in
-    decide (saved (restore b) ≡ b) (eqb (getD b 0 0) 1)
-    (λ y. let one = eqb-true _ _ y in
-    let ok : refusalOf 1 places₁.largest b ≡ 0 = simp y at chips in
-    ap saved (restore-one b header one) ∙ saved₁.bytes-back b small ok)
-    (λ n. let two = needed (eqb (getD b 0 0) 2) _ 21 (eqb-false 21 0 refl) (simp n at chips) in
-    let is = eqb-true _ _ (two .0) in
-    ap saved (restore-two b header (eqb-false _ _ n) is (two .1)) ∙ saved₂.bytes-back b small (two .1))
+pub bytes-back : (b : List ℕ) → AllBytes b → snapshotRefusal b ≡ 0 → saved (restore b) ≡ b
+bytes-back b small h = restore-by (λ s. saved s ≡ b) b h (λ one ok. saved₁.bytes-back b small ok) (λ two ok. saved₂.bytes-back b small ok)

@@ -44,15 +44,23 @@ put w (unbuilt n) = w
 abbrev pub freshWhole : Whole
 freshWhole = record { number = 1; one = state₁.fresh; two = state₂.fresh }
 
+-- the chip that a snapshot gives: the part that it names is restored, and the other chip's part is fresh; a fresh chip 1 where the snapshot is refused
+abbrev pub restoredWhole : List ℕ → Whole
+restoredWhole b = put freshWhole (restore b)
+
+-- the same chip with the other chip's part fresh
+abbrev pub otherFresh : Whole → Whole
+otherFresh w = put freshWhole (named w)
+
 -- an event called by itself: its answer, and what it leaves
 pub record Answered (c : code.Chip) (e : Raw) (t : turn.Turn) : Type 0 where
   pub answer : t .answer ≡ played (stateOf c) e .answer
   pub chip : wholeOf (t .chip) ≡ put (wholeOf c) (played (stateOf c) e .state)
 
--- a restore: its number, and the state with the other part fresh; a fresh chip 1 where it is refused
+-- a restore: its number, and the chip that it gives
 pub record RestoredIs (b : List ℕ) (r : restoring.Restored) : Type 0 where
   pub refusal : r .refusal ≡ snapshotRefusal b
-  pub chip : wholeOf (r .chip) ≡ put freshWhole (restore b)
+  pub chip : wholeOf (r .chip) ≡ restoredWhole b
 
 -- saving into a lent buffer: its number and length 0, or 0, the snapshot at the buffer's start and its length
 pub record SavedIs (c : code.Chip) (before after : List ℕ) (r : saving.Saved) : Type 0 where

@@ -1,7 +1,8 @@
--- The theorem on shuffled logs, its form on bytes, its corollaries, the two wordings of its condition, and the law of a loop over events.
+-- The theorem on shuffled logs, its form on bytes, its corollaries, the two wordings of its condition, a run event by event, and the law of a loop over events.
 pub mod Theorem
 pub mod Places
 pub mod Bytes
 pub mod Corollaries
 pub mod Wordings
 pub mod Loop
+pub mod Steps

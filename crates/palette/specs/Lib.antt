@@ -1,5 +1,2 @@
--- The run of a log, demand 3 over it, and the marked lines.
+-- The run of a log.
 pub mod Run
-pub mod Demands
-pub mod Marks
-pub mod Witnesses

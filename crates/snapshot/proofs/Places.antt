@@ -6,6 +6,7 @@ use mathlib.Core.List.{List}
 use borrow.Author.Tests.{eqb-true, eq-eqb}
 use lib.Dec.{eqb}
 use lib.ListN.{length, getD, replicate}
+use Rattle.laws.specs.Bytes.{AllBytes}
 use Rattle.laws.proofs.Tests.{cond-by}
 use Rattle.snapshot.specs.Snapshot.{Valid, snapshotOf, refusalOf, restored, restoredBy, resaved}
 use Rattle.snapshot.proofs.Valid.{restored-valid}
@@ -55,7 +56,7 @@ module _ {S : Type 0} (c : Layout S) where
   restore-accepted b h = simp (eq-eqb _ _ h)
 
   -- for every accepted snapshot, restoring and then saving gives the same bytes
-  pub bytes-back : (b : List ℕ) → ((i : ℕ) → getD b i 0 < 256) → refusalOf (c .chip) (c .table) b ≡ 0 → saved (restore b) ≡ b
+  pub bytes-back : (b : List ℕ) → AllBytes b → refusalOf (c .chip) (c .table) b ≡ 0 → saved (restore b) ≡ b
   bytes-back b small h =
       ap saved (restore-accepted b h)
       ∙ ap (snapshotOf (c .chip)) (c .places-from (restored (length (c .table)) b) (restored-valid (c .chip) (c .table) b h .long))

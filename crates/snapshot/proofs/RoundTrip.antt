@@ -11,6 +11,7 @@ use borrow.Author.Tests.{eq-eqb, ne-eqb, le-ltb, lt-leb, ltb-false, eqb-false, e
 use lib.Dec.{eqb, ltb, leb, eqb·suc-zero}
 use lib.ListN.{length, getD, set, take, drop, replicate, length-append, length-drop, length-take, length-replicate, replicate-append-replicate, take-append-drop}
 use lib.Seq.{getD-drop, append-snoc, set-at, take-at, drop-at, drop-drop, drop-cons}
+use Rattle.laws.specs.Bytes.{AllBytes}
 use Rattle.snapshot.specs.Snapshot.{numbersFrom, valuesOf, twoBytes, snapshotOf, wordsOf, pairsRefusal, placed, countOf, numbersIn, valuesIn, refusalOf, restored, restoredBy, resaved, over, Valid}
 use Rattle.snapshot.proofs.Stores.{numbers-long, values-short, snapshot-long}
 use Rattle.snapshot.proofs.Pairs.{accepted, pair-accepted}
@@ -180,7 +181,7 @@ high-byte a b h h′ =
     let q : (a + 256 * b) / 256 ≡ b = omega (arith, add-mul-div-left a b {y = 256} (omega arith), div-eq-of-lt h) in
     rw q (mod-eq-of-lt h′)
 
-bytes-words : (s : List ℕ) (n : ℕ) → length s ≡ 2 * n → ((i : ℕ) → getD s i 0 < 256) → twoBytes (wordsOf s) ≡ s
+bytes-words : (s : List ℕ) (n : ℕ) → length s ≡ 2 * n → AllBytes s → twoBytes (wordsOf s) ≡ s
 bytes-words [] n e h = refl
 bytes-words (a ∷ []) n e h = absurd (omega arith)
 bytes-words (a ∷ b ∷ s) n e h =
@@ -197,17 +198,17 @@ three (a ∷ []) h = absurd (omega arith)
 three (a ∷ b ∷ []) h = absurd (omega arith)
 three (a ∷ b ∷ d ∷ s) h = refl
 
-small-take : (n : ℕ) (s : List ℕ) → ((i : ℕ) → getD s i 0 < 256) → (i : ℕ) → getD (take n s) i 0 < 256
+small-take : (n : ℕ) (s : List ℕ) → AllBytes s → AllBytes (take n s)
 small-take zero s h i = omega arith
 small-take (suc n) [] h i = omega arith
 small-take (suc n) (x ∷ s) h zero = h 0
 small-take (suc n) (x ∷ s) h (suc i) = small-take n s (λ k. h (suc k)) i
 
-small-part : (s : List ℕ) (n k : ℕ) → ((i : ℕ) → getD s i 0 < 256) → (i : ℕ) → getD (take n (drop k s)) i 0 < 256
+small-part : (s : List ℕ) (n k : ℕ) → AllBytes s → AllBytes (take n (drop k s))
 small-part s n k h = small-take n (drop k s) (λ i. rw (getD-drop k s i 0) (h (k + i)))
 
 -- An accepted snapshot is the snapshot of the places that it gives.
-pub bytes-back : (chip : ℕ) (t s : List ℕ) → ((i : ℕ) → getD s i 0 < 256) → refusalOf chip t s ≡ 0 → snapshotOf chip (restored (length t) s) ≡ s
+pub bytes-back : (chip : ℕ) (t s : List ℕ) → AllBytes s → refusalOf chip t s ≡ 0 → snapshotOf chip (restored (length t) s) ≡ s
 unfolding snapshotOf restored numbersIn valuesIn
 bytes-back chip t s h e =
     let a = accepted chip t s e in

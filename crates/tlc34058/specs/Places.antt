@@ -37,6 +37,6 @@ stateFrom l =
 abbrev pub saved : State → List ℕ
 saved s = snapshotOf 1 (placesOf s)
 
--- the state that an accepted snapshot gives; a fresh chip where it is refused
-abbrev pub restore : List ℕ → State
-restore b = restoredBy 1 largest stateFrom fresh b
+-- the state that bytes give as a snapshot of this chip; its fresh state where they are refused
+abbrev pub decodedOrFresh : List ℕ → State
+decodedOrFresh b = restoredBy 1 largest stateFrom fresh b

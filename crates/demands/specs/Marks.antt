@@ -27,7 +27,7 @@ read selector = record { kind = 1; operand = selector ∷ replicate 7 0 }
 abbrev pub vertical : Raw
 vertical = record { kind = 3; operand = replicate 8 0 }
 
--- a place and its value
+-- a place of the state, or a byte of an answer, and its value
 pub record At : Type 0 where
   pub place : ℕ
   pub value : ℕ
@@ -35,13 +35,12 @@ pub record At : Type 0 where
 abbrev pub at : ℕ → ℕ → At
 at p v = record { place = p; value = v }
 
--- the events on a fresh chip; every place that isn't 0 at the end; bytes 0 and 1 of the last answer, as the marked line names them
+-- the events on a fresh chip; every place that isn't 0 at the end; those bytes of the last answer that the marked line names
 pub record Row : Type 0 where
   pub start : State
   pub events : List Raw
   pub places : List At
-  pub refused : ℕ
-  pub byte : ℕ
+  pub answer : List At
 
 abbrev pub nonzero : ℕ → List ℕ → List At
 nonzero i [] = []
@@ -63,46 +62,56 @@ placesOf (tlc34058 s) = places₁.placesOf s
 placesOf (hd153129 s) = places₂.placesOf s
 placesOf (unbuilt n) = []
 
-abbrev pub one : List Raw → List At → ℕ → ℕ → Row
-one es ps r b = record { start = tlc34058 state₁.fresh; events = es; places = ps; refused = r; byte = b }
+abbrev pub one : List Raw → List At → List At → Row
+one es ps bs = record { start = tlc34058 state₁.fresh; events = es; places = ps; answer = bs }
 
-abbrev pub two : List Raw → List At → ℕ → ℕ → Row
-two es ps r b = record { start = hd153129 state₂.fresh; events = es; places = ps; refused = r; byte = b }
+abbrev pub two : List Raw → List At → List At → Row
+two es ps bs = record { start = hd153129 state₂.fresh; events = es; places = ps; answer = bs }
+
+-- the answer names no byte; its refusal; a read's byte
+abbrev pub unnamed : List At
+unnamed = []
+
+abbrev pub refuses : ℕ → List At
+refuses n = at 0 n ∷ []
+
+abbrev pub gives : ℕ → List At
+gives b = at 0 0 ∷ at 1 b ∷ []
 
 unfoldable pub holds : Row → Bool
 holds row =
     let l = tagAll (row .events) in
     let last : List ℕ = lastOf (answers chip (row .start) l) in
-    same (nonzero 0 (placesOf (end chip (row .start) l))) (row .places) && (eqb (getD last 0 0) (row .refused) && eqb (getD last 1 0) (row .byte))
+    same (nonzero 0 (placesOf (end chip (row .start) l))) (row .places) && all (λ b. eqb (getD last (b .place) 0) (b .value)) (row .answer)
 
 unfoldable pub table : List Row
 table =
     -- M1: address FFh, palette 10h 20h 30h: entry 255 is that, address 00h
-    one (write 0 255 ∷ write 1 16 ∷ write 1 32 ∷ write 1 48 ∷ []) (at 765 16 ∷ at 766 32 ∷ at 767 48 ∷ at 782 16 ∷ at 783 32 ∷ []) 0 0
+    one (write 0 255 ∷ write 1 16 ∷ write 1 32 ∷ write 1 48 ∷ []) (at 765 16 ∷ at 766 32 ∷ at 767 48 ∷ at 782 16 ∷ at 783 32 ∷ []) unnamed
     -- M2: address 3, overlay triple: address 4; the next overlay write gives 2
-    ∷ one (write 0 3 ∷ write 3 1 ∷ write 3 2 ∷ write 3 3 ∷ []) (at 777 1 ∷ at 778 2 ∷ at 779 3 ∷ at 780 4 ∷ at 782 1 ∷ at 783 2 ∷ []) 0 0
-    ∷ one (write 0 3 ∷ write 3 1 ∷ write 3 2 ∷ write 3 3 ∷ write 3 9 ∷ []) (at 777 1 ∷ at 778 2 ∷ at 779 3 ∷ at 780 4 ∷ at 782 1 ∷ at 783 2 ∷ []) 2 0
+    ∷ one (write 0 3 ∷ write 3 1 ∷ write 3 2 ∷ write 3 3 ∷ []) (at 777 1 ∷ at 778 2 ∷ at 779 3 ∷ at 780 4 ∷ at 782 1 ∷ at 783 2 ∷ []) unnamed
+    ∷ one (write 0 3 ∷ write 3 1 ∷ write 3 2 ∷ write 3 3 ∷ write 3 9 ∷ []) (at 777 1 ∷ at 778 2 ∷ at 779 3 ∷ at 780 4 ∷ at 782 1 ∷ at 783 2 ∷ []) (refuses 2)
     -- M3: palette write 11h, address read, palette write 22h: held red 22h, no entry changed
-    ∷ one (write 1 17 ∷ read 0 ∷ write 1 34 ∷ []) (at 781 1 ∷ at 782 34 ∷ []) 0 0
+    ∷ one (write 1 17 ∷ read 0 ∷ write 1 34 ∷ []) (at 781 1 ∷ at 782 34 ∷ []) unnamed
     -- M4: palette read, read, write 7: entry 0 is 0 0 7
-    ∷ one (read 1 ∷ read 1 ∷ write 1 7 ∷ []) (at 2 7 ∷ at 780 1 ∷ []) 0 0
+    ∷ one (read 1 ∷ read 1 ∷ write 1 7 ∷ []) (at 2 7 ∷ at 780 1 ∷ []) unnamed
     -- M5: control read at address 8 gives 2; at 7 gives 0
-    ∷ one (write 0 8 ∷ read 2 ∷ []) (at 780 8 ∷ []) 2 0
-    ∷ one (write 0 7 ∷ read 2 ∷ []) (at 780 7 ∷ []) 0 0
+    ∷ one (write 0 8 ∷ read 2 ∷ []) (at 780 8 ∷ []) (refuses 2)
+    ∷ one (write 0 7 ∷ read 2 ∷ []) (at 780 7 ∷ []) (gives 0)
     -- M6: 127 vertical periods: count 127; one more: 0
-    ∷ one (replicate 127 vertical) (at 788 127 ∷ []) 0 0
-    ∷ one (replicate 128 vertical) [] 0 0
+    ∷ one (replicate 127 vertical) (at 788 127 ∷ []) unnamed
+    ∷ one (replicate 128 vertical) [] unnamed
     -- M7: write 3 with FFh: address 0, first read is entry 255's red; and again with that entry told apart
-    ∷ two (write 3 255 ∷ []) (at 770 1 ∷ []) 0 0
-    ∷ two (write 3 255 ∷ read 1 ∷ []) (at 769 1 ∷ at 770 1 ∷ []) 0 0
+    ∷ two (write 3 255 ∷ []) (at 770 1 ∷ []) unnamed
+    ∷ two (write 3 255 ∷ read 1 ∷ []) (at 769 1 ∷ at 770 1 ∷ []) (gives 0)
     ∷ two (write 0 255 ∷ write 1 16 ∷ write 1 32 ∷ write 1 48 ∷ write 3 255 ∷ read 1 ∷ [])
-    (at 765 16 ∷ at 766 32 ∷ at 767 48 ∷ at 769 1 ∷ at 770 1 ∷ at 771 16 ∷ at 772 32 ∷ []) 0 16
+    (at 765 16 ∷ at 766 32 ∷ at 767 48 ∷ at 769 1 ∷ at 770 1 ∷ at 771 16 ∷ at 772 32 ∷ []) (gives 16)
     -- M8: colour byte FFh is held as 3Fh
-    ∷ two (write 1 255 ∷ []) (at 769 1 ∷ at 771 63 ∷ []) 0 0
+    ∷ two (write 1 255 ∷ []) (at 769 1 ∷ at 771 63 ∷ []) unnamed
     -- M9: colour read gives 3
-    ∷ two (read 1 ∷ []) [] 3 0
+    ∷ two (read 1 ∷ []) [] (refuses 3)
     -- M10: an address read inside a triple leaves the position
-    ∷ two (write 0 5 ∷ write 1 1 ∷ read 0 ∷ []) (at 768 5 ∷ at 769 1 ∷ at 771 1 ∷ []) 0 5
+    ∷ two (write 0 5 ∷ write 1 1 ∷ read 0 ∷ []) (at 768 5 ∷ at 769 1 ∷ at 771 1 ∷ []) (gives 5)
     ∷ []
 
 pub marked : T (all holds table)

@@ -1,0 +1,2 @@
+-- Byte strings.
+pub mod Bytes

@@ -26,7 +26,8 @@ extern "C" {
 #define PALETTE_MOST_ANSWER_BYTES (PALETTE_ANSWER_BYTES * PALETTE_MOST_EVENTS)
 
 /* The two halves of what palette_run returns: the refusal (0 if the run was
- * accepted) and the length of the end snapshot (0 if it was refused). */
+ * accepted) and the length of the end snapshot (0 if it was refused). A
+ * snapshot has at most PALETTE_END_BYTES bytes, so the halves never mix. */
 #define PALETTE_REFUSAL(result) ((unsigned)((uint64_t)(result) >> 16))
 #define PALETTE_LENGTH(result) ((size_t)((uint64_t)(result) & 0xFFFFu))
 

@@ -1,1 +1,1 @@
-// No code: laws on tests and lists that the proofs of several crates cite.
+// No code: byte strings, and laws on tests and lists that the proofs of several crates cite.

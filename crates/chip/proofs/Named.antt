@@ -2,7 +2,7 @@
 -- Assumes nothing.
 use Prim.Native.Nat.{ℕ, _≤_, _<_}
 use mathlib.Core.Path.{_≡_, refl, sym, _∙_, ap, subst}
-use mathlib.Core.Bool.{Bool, true, false, cond}
+use mathlib.Core.Bool.{false}
 use mathlib.Core.List.{List}
 use borrow.Author.Tests.{eq-eqb, ne-eqb, lt-ltb, le-ltb, ltb-false, eqb-true, eqb-false}
 use lib.Dec.{eqb, ltb}
@@ -10,7 +10,7 @@ use lib.ListN.{length, getD}
 use Rattle.laws.proofs.Tests.{decide, passed, needed}
 use Rattle.snapshot.specs.Snapshot.{within, refusalOf, restoredBy}
 use Rattle.interleaving.specs.Log.{Event, access, display, save, step, answer}
-use Rattle.event.specs.Event.{Raw, Played, playedUnless}
+use Rattle.event.specs.Event.{Raw}
 use Rattle.event.proofs.Laws.{played-in}
 use Rattle.tlc34058.specs.State as state₁
 use Rattle.tlc34058.specs.Places as places₁
@@ -18,8 +18,8 @@ use Rattle.tlc34058.specs.Machine as chip₁
 use Rattle.hd153129.specs.State as state₂
 use Rattle.hd153129.specs.Places as places₂
 use Rattle.hd153129.specs.Machine as chip₂
-use Rattle.chip.specs.Chip.{State, tlc34058, hd153129, unbuilt, snapshotRefusal, restore, saved, endRoom, saveRefusal, chip, callRefusal, played}
-use Rattle.chip.specs.Struct.{Whole, named, put}
+use Rattle.chip.specs.Chip.{State, tlc34058, hd153129, unbuilt, snapshotRefusal, restore, endRoom, saveRefusal, chip, callRefusal, played}
+use Rattle.chip.specs.Struct.{Whole, named}
 
 module _ (w : Whole) where
   pub named-one : w .number ≡ 1 → named w ≡ tlc34058 (w .one)

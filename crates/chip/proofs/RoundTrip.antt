@@ -1,10 +1,10 @@
 -- Saving and then restoring gives the same state; for every accepted snapshot restoring and then saving gives the same bytes.
 -- Assumes nothing.
 use Prim.Native.Nat.{ℕ}
-use mathlib.Core.Path.{_≡_, refl, sym, _∙_, ap}
+use mathlib.Core.Path.{_≡_, sym, _∙_, ap}
 use mathlib.Core.List.{List}
 use native.Mathlib.Omega.{arith}
-use lib.ListN.{length, getD}
+use lib.ListN.{getD}
 use Rattle.laws.specs.Bytes.{AllBytes}
 use Rattle.snapshot.specs.Snapshot.{refusalOf}
 use Rattle.snapshot.proofs.RoundTrip as codec

@@ -1,19 +1,19 @@
 -- Demand 1.
 -- Assumes nothing.
-use Prim.Native.Nat.{ℕ, _+_, _*_, _<_}
+use Prim.Native.Nat.{ℕ, _*_, _<_}
 use mathlib.Core.Path.{_≡_, refl, sym, _∙_, ap}
 use mathlib.Core.Bool.{Bool, true, false, cond}
 use mathlib.Core.List.{List}
 use native.Mathlib.Nat.{add-zero}
 use native.Mathlib.Omega.{arith}
 use lib.Dec.{eqb}
-use lib.ListN.{length, getD, take, drop}
+use lib.ListN.{length, getD, drop}
 use lib.Seq.{getD-take, getD-drop}
 use Rattle.laws.specs.Bytes.{AllBytes}
 use Rattle.interleaving.specs.Log.{step, answer}
 use Rattle.event.specs.Event.{Raw, tagged, refused as refusedAnswer, Played, playedUnless}
-use Rattle.chip.specs.Chip.{State, endRoom, chip, callRefusal, played}
-use Rattle.chip.specs.Struct.{Whole, named, put}
+use Rattle.chip.specs.Chip.{State, chip, callRefusal, played}
+use Rattle.chip.specs.Struct.{named}
 use Rattle.chip.proofs.Shuffled.{refused-stays}
 use Rattle.chip.proofs.Fits.{put-named, saved-most}
 use Rattle.log.specs.Log.{countOf, eventAt}

@@ -1,6 +1,6 @@
 -- Places of a sound state are valid and the other way round; every restored state is sound; a save leaves a sound state as it was.
 -- Assumes nothing.
-use Prim.Native.Nat.{ℕ, _+_, _≤_, _<_}
+use Prim.Native.Nat.{ℕ, _+_, _≤_}
 use mathlib.Core.Path.{_≡_, refl, sym, _∙_, ap}
 use mathlib.Core.List.{List, [], _∷_, _++_}
 use native.Mathlib.Omega.{arith}
@@ -9,7 +9,7 @@ use lib.Seq.{take-at, getD-append-add, getD-drop}
 use Rattle.laws.specs.Bytes.{AllBytes}
 use Rattle.laws.proofs.Lists.{zeros-small, drop-list}
 use Rattle.snapshot.specs.Snapshot.{Valid, refusalOf, restoredBy, resaved}
-use Rattle.snapshot.proofs.Parts.{Parts, each, parts-valid, valid-parts, places-parts}
+use Rattle.snapshot.proofs.Parts.{each, parts-valid, valid-parts, places-parts}
 use Rattle.snapshot.proofs.Places as layout
 use Rattle.hd153129.specs.State.{State, fresh}
 use Rattle.hd153129.specs.Places.{largest, tailOf, placesOf, stateFrom, saved, decodedOrFresh}

@@ -1,11 +1,11 @@
 -- A chip's state and its places, for any chip: what follows of snapshots from how the one is made of the other.
 -- Assumes nothing.
-use Prim.Native.Nat.{ℕ, _≤_, _<_}
-use mathlib.Core.Path.{_≡_, refl, sym, _∙_, ap}
+use Prim.Native.Nat.{ℕ, _≤_}
+use mathlib.Core.Path.{_≡_, _∙_, ap}
 use mathlib.Core.List.{List}
 use borrow.Author.Tests.{eqb-true, eq-eqb}
 use lib.Dec.{eqb}
-use lib.ListN.{length, getD, replicate}
+use lib.ListN.{length, replicate}
 use Rattle.laws.specs.Bytes.{AllBytes}
 use Rattle.laws.proofs.Tests.{cond-by}
 use Rattle.snapshot.specs.Snapshot.{Valid, snapshotOf, refusalOf, restored, restoredBy, resaved}

@@ -3,14 +3,14 @@
 use Prim.Native.Nat.{ℕ, zero, suc, _+_, _-_, _*_, _≤_, _<_, _/_, _%_}
 use mathlib.Core.Path.{_≡_, _∙_, refl, sym, ap}
 use mathlib.Core.Bool.{Bool, true, false, cond}
-use mathlib.Core.List.{List, [], _∷_, _++_, append-assoc, append-nil}
+use mathlib.Core.List.{List, [], _∷_, _++_, append-assoc}
 use native.Mathlib.Nat.{add-zero, zero-add, sub-zero, add-suc, suc-add, add-mul-mod-self-left, add-mul-div-left, mod-eq-of-lt, div-eq-of-lt}
 use native.Mathlib.Numerals.{add-one}
 use native.Mathlib.Omega.{arith}
-use borrow.Author.Tests.{eq-eqb, ne-eqb, le-ltb, lt-leb, ltb-false, eqb-false, eqb-true, leb-false}
-use lib.Dec.{eqb, ltb, leb, eqb·suc-zero}
+use borrow.Author.Tests.{eq-eqb, ne-eqb, le-ltb, lt-leb}
+use lib.Dec.{eqb, ltb, eqb·suc-zero}
 use lib.ListN.{length, getD, set, take, drop, replicate, length-append, length-drop, length-take, length-replicate, replicate-append-replicate, take-append-drop}
-use lib.Seq.{getD-drop, append-snoc, set-at, take-at, drop-at, drop-drop, drop-cons}
+use lib.Seq.{getD-drop, append-snoc, set-at, take-at, drop-at, drop-drop}
 use Rattle.laws.specs.Bytes.{AllBytes}
 use Rattle.snapshot.specs.Snapshot.{numbersFrom, valuesOf, twoBytes, snapshotOf, wordsOf, pairsRefusal, placed, countOf, numbersIn, valuesIn, refusalOf, restored, restoredBy, resaved, over, Valid}
 use Rattle.snapshot.proofs.Stores.{numbers-long, values-short, snapshot-long}

@@ -48,7 +48,7 @@ freshWhole = record { number = 1; one = state₁.fresh; two = state₂.fresh }
 abbrev pub restoredWhole : List ℕ → Whole
 restoredWhole b = put freshWhole (restore b)
 
--- the same chip with the other chip's part fresh
+-- the same chip with the other chip's part fresh; a fresh chip 1 where it names no built chip
 abbrev pub otherFresh : Whole → Whole
 otherFresh w = put freshWhole (named w)
 

@@ -1,18 +1,21 @@
 -- Demand 1.
 -- Assumes nothing.
 use Prim.Native.Nat.{ℕ, _*_, _<_}
-use mathlib.Core.Path.{_≡_, refl, sym, _∙_, ap}
-use mathlib.Core.Bool.{Bool, true, false, cond}
+use mathlib.Core.Path.{_≡_, sym, _∙_, ap}
 use mathlib.Core.List.{List}
 use native.Mathlib.Nat.{add-zero}
 use native.Mathlib.Omega.{arith}
-use lib.Dec.{eqb}
 use lib.ListN.{length, getD, drop}
 use lib.Seq.{getD-take, getD-drop}
 use Rattle.laws.specs.Bytes.{AllBytes}
-use Rattle.interleaving.specs.Log.{step, answer}
-use Rattle.event.specs.Event.{Raw, tagged, refused as refusedAnswer, Played, playedUnless}
-use Rattle.chip.specs.Chip.{State, chip, callRefusal, played}
+use Rattle.interleaving.specs.Log.{answer}
+use Rattle.event.specs.Event.{tagged}
+use Rattle.event.proofs.Laws.{played-stays}
+use Rattle.tlc34058.specs.Machine as chip₁
+use Rattle.tlc34058.proofs.Instance as instance₁
+use Rattle.hd153129.specs.Machine as chip₂
+use Rattle.hd153129.proofs.Instance as instance₂
+use Rattle.chip.specs.Chip.{chip, callRefusal, played}
 use Rattle.chip.specs.Struct.{named}
 use Rattle.chip.proofs.Shuffled.{refused-stays}
 use Rattle.chip.proofs.Fits.{put-named, saved-most}
@@ -41,22 +44,12 @@ module _ (from log answers end : List ℕ) (ok : refusal from log answers end �
     refused-stays = λ i h b. runs.event-state from log answers end ok i h ∙ refused-stays (stateAt from log i) (tagged (eventAt log i)) (λ z. b (first-byte i h ∙ z));
   }
 
--- an event called by itself: refused before its own refusals, or by one of them
-stays : (s : State) (e : Raw) → (getD (played s e .answer) 0 0 ≡ 0 → ⊥) → played s e .state ≡ s
-unfolding playedUnless
-stays s e = go (eqb (callRefusal s e) 0)
-  where
-    Stays : Played State → Type 0
-    Stays p = (getD (p .answer) 0 0 ≡ 0 → ⊥) → p .state ≡ s
-
-    go : (b : Bool) → Stays (cond b (record { answer = answer chip s (tagged e); state = step chip s (tagged e) }) (record { answer = refusedAnswer (callRefusal s e); state = s }))
-    go true h = refused-stays s (tagged e) h
-    go false h = refl
-
 pub demand1 : Demand1
 demand1 = record {
   runs = λ from log answers end ok. run-to-end (from .list) (log .list) (answers .list) (end .list) ok (log .small);
   refuses = λ from log answers end h. runs.refused (from .list) (log .list) (answers .list) (end .list) h;
   room-small = omega arith;
-  event-refused = λ w e h. put-named w (played (named w) e .state) (stays (named w) e h);
+  event-refused = λ w e h. put-named w (played (named w) e .state) (played-stays chip refused-stays (callRefusal (named w) e) (named w) e h);
+  event-refused₁ = λ s e. played-stays chip₁.chip instance₁.refused-stays (chip₁.callRefusal s e) s e;
+  event-refused₂ = λ s e. played-stays chip₂.chip instance₂.refused-stays (chip₂.callRefusal s e) s e;
 }

@@ -68,7 +68,7 @@ one es ps bs = record { start = tlc34058 state₁.fresh; events = es; places = p
 abbrev pub two : List Raw → List At → List At → Row
 two es ps bs = record { start = hd153129 state₂.fresh; events = es; places = ps; answer = bs }
 
--- the answer names no byte; its refusal; a read's byte
+-- what a line names of the last answer: nothing; a refusal; a read's byte, unrefused
 abbrev pub unnamed : List At
 unnamed = []
 

@@ -86,3 +86,7 @@ altersDisplay p (setRegister a b) = ltb a 7
 altersDisplay p getAddress = false
 altersDisplay p (getColour e) = false
 altersDisplay p (getRegister a) = false
+
+-- no access's answer looks at what display events move
+abbrev pub looksAtDisplay : Port → Access → Bool
+looksAtDisplay p x = false

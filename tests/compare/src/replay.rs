@@ -82,13 +82,15 @@ fn in_pieces(random: &mut Random, number: usize) -> (Vec<u8>, usize) {
     (bytes, random.pick(&[1, 2, 3, 7, 19, 4097]))
 }
 
-/// Logs for a run without proof, which an interpreter plays too: each chip's
-/// accepted log, then logs with each refusal.
+/// Logs for a run without proof, which an interpreter plays too: for each chip
+/// an accepted log and one of no events, whose end snapshot is the fresh
+/// chip's, then logs with each refusal.
 pub fn samples(random: &mut Random) -> Vec<(String, Vec<u8>)> {
     let mut samples = Vec::new();
     for chip in [1, 2] {
         let events = random.events(chip, 1_000);
         samples.push((format!("accepted-chip-{chip}"), log_bytes(chip, &events)));
+        samples.push((format!("empty-chip-{chip}"), log_bytes(chip, &[])));
     }
     for refusal in 10..=15 {
         for chip in [1, 2] {

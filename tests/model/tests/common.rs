@@ -3,6 +3,24 @@
 
 use model::{event, kind, run, Answer, Event, Log, Operand, State};
 
+/// The chips that document 01 builds.
+pub const BUILT_CHIPS: [u8; 2] = [1, 2];
+
+/// Every chip byte that isn't a built chip's.
+pub fn chips_not_built() -> impl Iterator<Item = u8> {
+    (0..=255).filter(|chip| !BUILT_CHIPS.contains(chip))
+}
+
+/// The built chips in turn, one for each round of a test.
+pub fn chip_of_round(round: usize) -> u8 {
+    BUILT_CHIPS[round % BUILT_CHIPS.len()]
+}
+
+/// For a choice between chips, where no chip may pass for another.
+pub fn no_such_chip(chip: u8) -> ! {
+    panic!("the tests know no chip {chip}")
+}
+
 /// Chip 1 selectors, 2 x C1 + C0.
 pub mod c {
     pub const ADDRESS: u8 = 0;
@@ -50,18 +68,28 @@ pub fn largest(chip: u8, place: usize) -> u8 {
         (1, 781) => 2,
         (1, 788) => 127,
         (1, _) => 255,
-        (_, 0..=767 | 771 | 772) => 63,
-        (_, 769) => 2,
-        (_, 770) => 1,
-        _ => 255,
+        (2, 0..=767 | 771 | 772) => 63,
+        (2, 769) => 2,
+        (2, 770) => 1,
+        (2, _) => 255,
+        _ => no_such_chip(chip),
     }
 }
 
 pub fn place_count(chip: u8) -> usize {
-    if chip == 1 {
-        p1::COUNT
-    } else {
-        p2::COUNT
+    match chip {
+        1 => p1::COUNT,
+        2 => p2::COUNT,
+        _ => no_such_chip(chip),
+    }
+}
+
+/// The place of a chip's address; its position stands behind it.
+fn address_place(chip: u8) -> usize {
+    match chip {
+        1 => p1::ADDRESS,
+        2 => p2::ADDRESS,
+        _ => no_such_chip(chip),
     }
 }
 
@@ -74,6 +102,13 @@ impl Bench {
     pub fn fresh(chip: u8) -> Bench {
         Bench {
             state: State::fresh(chip).unwrap(),
+        }
+    }
+
+    /// A chip that isn't built: its state has no places.
+    pub fn not_built(chip: u8) -> Bench {
+        Bench {
+            state: State::from_places(chip, &[]).unwrap(),
         }
     }
 
@@ -220,7 +255,7 @@ pub fn log_bytes(chip: u8, events: &[Event]) -> Vec<u8> {
 }
 
 pub fn is_access(event: &Event) -> bool {
-    event.kind <= kind::READ
+    event.kind == kind::WRITE || event.kind == kind::READ
 }
 
 pub fn is_display(event: &Event) -> bool {
@@ -294,7 +329,7 @@ impl Random {
                 }
             })
             .collect();
-        let address = if chip == 1 { p1::ADDRESS } else { p2::ADDRESS };
+        let address = address_place(chip);
         places[address] = self.address();
         places[address + 1] = self.up_to(2);
         if chip == 1 && self.one_in(2) {
@@ -342,12 +377,20 @@ impl Random {
         }
     }
 
+    fn colour_selector(&mut self, chip: u8) -> u8 {
+        match chip {
+            1 => self.pick(&[c::PALETTE, c::OVERLAY]),
+            2 => rs::CLT,
+            _ => no_such_chip(chip),
+        }
+    }
+
     /// One access, or some that belong together: a whole colour, or a register
     /// that the display looks at.
     pub fn burst(&mut self, chip: u8) -> Vec<Event> {
         match (self.below(4), chip) {
             (0, _) => {
-                let colour = if chip == 1 { self.pick(&[1, 3]) } else { 1 };
+                let colour = self.colour_selector(chip);
                 let mut burst = vec![write(0, self.pick(&[0, 1, 2, 3, 255]))];
                 burst.extend((0..3).map(|_| write(colour, self.byte())));
                 burst
@@ -357,7 +400,8 @@ impl Random {
                 let byte = self.pick(&[0x00, 0x40, 0xC3, 0x0F, 0xFF]);
                 vec![write(0, address), write(2, byte)]
             }
-            (1, _) => vec![write(2, self.byte())],
+            (1, 2) => vec![write(2, self.byte())],
+            (1, _) => no_such_chip(chip),
             _ => vec![self.access()],
         }
     }
@@ -367,16 +411,20 @@ impl Random {
             return vertical();
         }
         let mut operand = [0; 8];
-        if chip == 1 {
-            for pixel in &mut operand[..5] {
-                *pixel = self.address();
+        match chip {
+            1 => {
+                for pixel in &mut operand[..5] {
+                    *pixel = self.address();
+                }
+                operand[5] = self.byte() & 31;
+                operand[6] = self.byte() & 31;
+                operand[7] = self.pick(&[1, 3, 1, 3, 0, 2]);
             }
-            operand[5] = self.byte() & 31;
-            operand[6] = self.byte() & 31;
-            operand[7] = self.pick(&[1, 3, 1, 3, 0, 2]);
-        } else {
-            operand[0] = self.address();
-            operand[7] = self.pick(&[1, 1, 1, 0]);
+            2 => {
+                operand[0] = self.address();
+                operand[7] = self.pick(&[1, 1, 1, 0]);
+            }
+            _ => no_such_chip(chip),
         }
         if self.one_in(12) {
             operand[7] |= 4;

@@ -5,10 +5,11 @@
 //! events before it, every tick gets the same answer too.
 
 use crate::common::{
-    is_access, is_display, log_bytes, p2, play, save_event, snapshot_bytes, tick, vertical, write,
-    Played, Random,
+    is_access, is_display, log_bytes, no_such_chip, p2, play, save_event, snapshot_bytes, tick,
+    vertical, write, Played, Random,
 };
 use model::{kind, painting_accesses, save, Answer, Event};
+use std::collections::BTreeMap;
 
 /// How much of each class the random logs held, so that no test passes by
 /// being empty.
@@ -17,12 +18,23 @@ struct Census {
     pairs: usize,
     moved: usize,
     saves_differ: usize,
-    refused: [usize; 6],
+    refused: BTreeMap<u8, usize>,
     painting: usize,
     ticks_with_colour: usize,
     vertical_periods: usize,
     pairs_with_other_ticks: usize,
     pairs_breaking_the_condition: usize,
+}
+
+impl Census {
+    /// Counts the refusals of a log's answers and the colours of its ticks.
+    fn count_answers(&mut self, answers: &[Answer], ticks: &[Answer]) {
+        for answer in answers.iter().filter(|answer| answer[0] != 0) {
+            *self.refused.entry(answer[0]).or_insert(0) += 1;
+        }
+        let coloured = |answer: &&Answer| answer[0] == 0 && answer[3..] != [0; 15];
+        self.ticks_with_colour += ticks.iter().filter(coloured).count();
+    }
 }
 
 /// A log of `count` accesses and display events, two accesses to each display
@@ -159,13 +171,7 @@ fn check_pair(census: &mut Census, chip: u8, snapshot: &[u8], one: &[Event], two
     census.painting += painting_one.len();
     census.pairs_with_other_ticks += usize::from(ticks_one != ticks_two);
     census.vertical_periods += one.iter().filter(|e| e.kind == kind::VERTICAL).count();
-    for answer in &played_one.answers {
-        if answer[0] != 0 {
-            census.refused[usize::from(answer[0])] += 1;
-        }
-    }
-    let coloured = |answer: &&Answer| answer[0] == 0 && answer[3..] != [0; 15];
-    census.ticks_with_colour += ticks_one.iter().filter(coloured).count();
+    census.count_answers(&played_one.answers, &ticks_one);
 }
 
 /// Runs `pairs` pairs on one chip, shuffled freely or under the condition.
@@ -195,10 +201,15 @@ fn assert_well_mixed(census: &Census, chip: u8) {
     assert!(census.painting > 2 * census.pairs);
     assert!(census.ticks_with_colour > 2 * census.pairs);
     assert!(census.vertical_periods > census.pairs);
-    let possible: &[usize] = if chip == 1 { &[1, 2, 4] } else { &[1, 3, 4, 5] };
-    for &number in possible {
-        assert!(census.refused[number] > census.pairs / 4);
-    }
+    let possible: &[u8] = match chip {
+        1 => &[1, 2, 4],
+        2 => &[1, 3, 4, 5],
+        _ => no_such_chip(chip),
+    };
+    let met: Vec<u8> = census.refused.keys().copied().collect();
+    assert_eq!(met, possible);
+    let mut times = census.refused.values();
+    assert!(times.all(|&times| times > census.pairs / 4));
 }
 
 #[test]

@@ -1,7 +1,10 @@
 //! The printing program's output, from the library and from `model-replay`.
 
-use crate::common::{log_bytes, read, save_event, tick, vertical, write, Random};
+use crate::common::{
+    chip_of_round, chips_not_built, log_bytes, read, save_event, tick, vertical, write, Random,
+};
 use model::printed;
+use std::collections::BTreeMap;
 use std::io::Write;
 use std::process::{Command, Stdio};
 
@@ -75,7 +78,7 @@ fn a_refused_log_prints_its_number_alone() {
         (vec![], "refused 10\n"),
         (vec![1, 0, 0, 0], "refused 10\n"),
         (vec![0, 0, 0, 0, 0], "refused 11\n"),
-        (vec![3, 0, 0, 0, 0], "refused 11\n"),
+        (vec![9, 0, 0, 0, 0], "refused 11\n"),
         (vec![2, 0xB9, 0x0B, 0, 0], "refused 12\n"),
         (vec![2, 1, 0, 0, 0], "refused 13\n"),
         (long, "refused 13\n"),
@@ -85,6 +88,14 @@ fn a_refused_log_prints_its_number_alone() {
     for (input, expected) in cases {
         assert_eq!(printed(&input), expected);
         assert_eq!(printed_by_program(&input), expected);
+    }
+}
+
+#[test]
+fn a_log_of_a_chip_that_is_not_built_prints_11() {
+    for chip in chips_not_built() {
+        assert_eq!(printed(&[chip, 0, 0, 0, 0]), "refused 11\n");
+        assert_eq!(printed(&log_bytes(chip, &[read(0)])), "refused 11\n");
     }
 }
 
@@ -106,7 +117,7 @@ fn refusals_in_answers_are_printed_as_answers() {
 fn the_program_prints_what_the_library_prints() {
     let mut random = Random::seeded(0x5EED_0002);
     for round in 0..20 {
-        let chip = 1 + (round % 2) as u8;
+        let chip = chip_of_round(round);
         let events: Vec<_> = (0..150).map(|_| random.event(chip)).collect();
         let log = log_bytes(chip, &events);
         let text = printed(&log);
@@ -118,11 +129,11 @@ fn the_program_prints_what_the_library_prints() {
 #[test]
 fn any_input_prints_a_refusal_or_all_its_answers() {
     let mut random = Random::seeded(0x5EED_0004);
-    let mut refused = [0; 16];
+    let mut refused = BTreeMap::new();
     let mut accepted = 0;
     for round in 0..4000 {
         // Good logs with one byte changed, cut or added, now and then.
-        let chip = 1 + (round % 2) as u8;
+        let chip = chip_of_round(round);
         let count = random.below(6);
         let events: Vec<_> = (0..count).map(|_| random.event(chip)).collect();
         let mut input = log_bytes(chip, &events);
@@ -137,16 +148,18 @@ fn any_input_prints_a_refusal_or_all_its_answers() {
         }
         let text = printed(&input);
         match text.strip_prefix("refused ") {
-            Some(number) => refused[number.trim_end().parse::<usize>().unwrap()] += 1,
+            Some(number) => {
+                let number: u8 = number.trim_end().parse().unwrap();
+                *refused.entry(number).or_insert(0) += 1;
+            }
             None => {
                 assert_eq!(text.lines().count(), count + 1);
                 accepted += 1;
             }
         }
     }
-    assert_eq!(refused[..10], [0; 10]);
-    for times in &refused[10..] {
-        assert!(*times > 20);
-    }
+    let numbers: Vec<u8> = refused.keys().copied().collect();
+    assert_eq!(numbers, [10, 11, 12, 13, 14, 15]);
+    assert!(refused.values().all(|&times| times > 20));
     assert!(accepted > 1000);
 }

@@ -1,7 +1,10 @@
 //! Refusals of a run: the snapshot's, the log's, 26, 30, 31, each alone, in
 //! every combination of groups, and in order inside each group.
 
-use crate::common::{log_bytes, read, save_event, snapshot_bytes, tick, vertical, write, Random};
+use crate::common::{
+    chip_of_round, chips_not_built, log_bytes, read, save_event, snapshot_bytes, tick, vertical,
+    write, Random,
+};
 use model::{read_log, run, Event};
 
 /// Runs with buffers of these sizes; gives the result and both buffers.
@@ -55,7 +58,7 @@ fn odd_operand(kind: u8, operand: [u8; 8]) -> Event {
 fn snapshot_with(fault: u8, chip: u8) -> Vec<u8> {
     match fault {
         20 => vec![chip, 0],
-        21 => vec![3, 0, 0],
+        21 => vec![9, 0, 0],
         22 => vec![chip, 0x16, 0x03], // 790
         23 => vec![chip, 1, 0],
         24 => snapshot_bytes(chip, &[(789, 1)]),
@@ -69,7 +72,7 @@ fn log_with(fault: u8, chip: u8) -> Vec<u8> {
     let mut events = [write(0, 5), read(0)];
     match fault {
         10 => return vec![chip, 2, 0, 0],
-        11 => return log_bytes(0, &events),
+        11 => return log_bytes(9, &events),
         12 => return vec![chip, 0xB9, 0x0B, 0, 0], // 3,001
         13 => {
             let mut bytes = log_bytes(chip, &events);
@@ -89,15 +92,10 @@ fn every_combination_of_groups_gives_the_first_refusal() {
     for snapshot_chip in [1, 2] {
         for snapshot_fault in [0, 20, 21, 22, 23, 24, 25] {
             for log_fault in [0, 10, 11, 12, 13, 14, 15] {
-                for other_chip in [false, true] {
+                for log_chip in [1, 2] {
+                    let chip_fault = if log_chip == snapshot_chip { 0 } else { 26 };
                     for (answer_bytes, answer_fault) in [(36, 0), (35, 30)] {
                         for (end_bytes, end_fault) in [(2370, 0), (2369, 31)] {
-                            let log_chip = if other_chip {
-                                3 - snapshot_chip
-                            } else {
-                                snapshot_chip
-                            };
-                            let chip_fault = if other_chip { 26 } else { 0 };
                             let snapshot = snapshot_with(snapshot_fault, snapshot_chip);
                             let log = log_with(log_fault, log_chip);
                             let faults = [
@@ -132,7 +130,7 @@ fn refusal_10_under_5_bytes_comes_before_11() {
 
 #[test]
 fn refusal_11_chip_comes_before_12_13_and_14() {
-    for chip in (0..=255).filter(|chip| ![1, 2].contains(chip)) {
+    for chip in chips_not_built() {
         assert_log_refused(&[chip, 0, 0, 0, 0], 11);
         assert_log_refused(&[chip, 0xFF, 0xFF, 0xFF, 0xFF], 11);
         assert_log_refused(&[chip, 1, 0, 0, 0], 11);
@@ -303,7 +301,7 @@ fn refusals_1_to_5_sit_in_their_answers_and_stop_nothing() {
 fn a_run_is_its_events_called_one_after_another() {
     let mut random = Random::seeded(0x5EED_0001);
     for round in 0..200 {
-        let chip = 1 + (round % 2) as u8;
+        let chip = chip_of_round(round);
         let start = random.state(chip);
         let events: Vec<Event> = (0..random.below(60)).map(|_| random.event(chip)).collect();
         let mut state = start.clone();

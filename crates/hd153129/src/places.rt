@@ -1,6 +1,7 @@
 // The state as its 774 places, and back; and a save.
 ghost use mathlib.Core.Path.{_≡_};
 ghost use lib.ListN.{length, take};
+ghost use Rattle.snapshot.specs.Snapshot.{Valid};
 ghost use Rattle.hd153129.specs.Places.{largest as largestValues, placesOf, stateFrom, saved, decodedOrFresh};
 ghost use Rattle.hd153129.specs.Struct.{joined};
 use crate::Control;
@@ -56,7 +57,7 @@ pub fn control_from(places: [u8; 774]) -> Control
 
 // A save event does both steps for real: the state becomes a snapshot, and is restored from its bytes.
 pub fn save_and_restore(colours: &mut [u8], c: Control) -> Control
-    requires { ⌜ length (now colours) ≡ 768 ⌝ }
+    requires { ⌜ Valid largestValues (placesOf (joined (now colours) c)) ⌝ }
     ensures { λ r. ⌜ joined (now (colours .exit)) r ≡ decodedOrFresh (saved (joined (now (colours .entry)) c)) ⌝ }
 {
     let mut places = places_of(colours, c);

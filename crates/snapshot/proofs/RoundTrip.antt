@@ -106,15 +106,14 @@ pub decoded-by : (chip n : ℕ) (t u b z : List ℕ) → u ≡ t → n ≡ lengt
 unfolding restoredBy
 decoded-by chip n t u b z e h = rw (e, h)
 
--- what decoding leaves in cleared places, of the bytes that encoding wrote
-pub resaved-from : (chip n : ℕ) (t l room bytes cleared : List ℕ) → length t ≡ length l → n ≡ length (snapshotOf chip l) → bytes ≡ over (snapshotOf chip l) room → cleared ≡ replicate (length l) 0
-    → cond (eqb (refusalOf chip t (take (n - 0) bytes)) 0) (restored (length cleared) (take (n - 0) bytes)) cleared ≡ resaved chip t l
+-- what decoding leaves in valid places, of the bytes that encoding wrote
+pub resaved-from : (chip n : ℕ) (t l room bytes : List ℕ) → Valid t l → length l ≤ 65535 → n ≡ length (snapshotOf chip l) → bytes ≡ over (snapshotOf chip l) room
+    → cond (eqb (refusalOf chip t (take (n - 0) bytes)) 0) (restored (length l) (take (n - 0) bytes)) l ≡ resaved chip t l
 unfolding restoredBy
-resaved-from chip n t l room bytes cleared same e written zeros =
+resaved-from chip n t l room bytes v h e written =
     let s : List ℕ = snapshotOf chip l in
     let part : take (n - 0) bytes ≡ s = rw (sub-zero, written) (take-at s (drop (length s) room) n (sym e)) in
-    let size : length cleared ≡ length t = ap length zeros ∙ length-replicate (length l) 0 ∙ sym same in
-    rw (part, size, zeros, same)
+    rw (part, eq-eqb _ _ (accepted-back chip t l (omega (arith, v .long)) v), v .long)
 
 -- ---- and bytes to places to bytes
 

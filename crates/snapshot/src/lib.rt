@@ -5,7 +5,7 @@ ghost use Prim.Native.Nat.{_+_, _*_, _<_, _≤_};
 ghost use lib.Dec.{eqb};
 ghost use lib.ListN.{length, take, replicate};
 ghost use lib.Seq.{sets};
-ghost use Rattle.snapshot.specs.Snapshot.{mostPlaces, within as fits, numbersFrom, valuesOf, twoBytes, snapshotOf, over, wordAt, wordsOf, pairsRefusal, placed, refusalOf, resaved, Decoded};
+ghost use Rattle.snapshot.specs.Snapshot.{mostPlaces, within as fits, numbersFrom, valuesOf, twoBytes, snapshotOf, over, wordAt, wordsOf, pairsRefusal, placed, refusalOf, resaved, Valid, Decoded};
 
 // The most places that a chip has, and the bytes of a snapshot of so many.
 pub const MOST_PLACES: usize = 789;
@@ -193,14 +193,13 @@ pub fn decode(chip: u8, largest: &[u8], s: &[u8], places: &mut [u8]) -> u8
     0
 }
 
-// A save: the places turned into a snapshot, and restored from its bytes, both for real.
+// A save: the places turned into a snapshot, and restored from its bytes, both for real. For our crates: the places are valid, so their snapshot is accepted.
 pub fn save_places(chip: u8, largest: &[u8], places: &mut [u8])
-    requires { ⌜ (length (now largest) ≡ length (now places)) × (length (now places) ≤ mostPlaces) ⌝ }
+    requires { ⌜ Valid (now largest) (now places) × (length (now places) ≤ mostPlaces) ⌝ }
     ensures { λ _. ⌜ now (places .exit) ≡ resaved chip (now (largest .entry)) (now (places .entry)) ⌝ }
 {
     let mut bytes = [0u8; MOST_BYTES];
     let n = encode(chip, places, &mut bytes);
-    clear(places);
     decode(chip, largest, &bytes[0..n], places);
 }
 

@@ -17,9 +17,6 @@ slice-aggregate-encode c = search needs
 encode-requires : tie.Need-encode-requires
 encode-requires c κs = search needs
 
-clear-requires : tie.Need-clear-requires
-clear-requires c κs = search needs
-
 sub-decode : tie.Need-sub-decode
 sub-decode c = search needs
 
@@ -28,9 +25,9 @@ part-decode-start c = search needs
 
 part-decode-end : tie.Need-part-decode-end
 part-decode-end c =
-    let args = c .before .before .before .before .before .before .before .before .before .before .before .args in
-    let encode = c .before .before .before .before .before .before .encode in
-    let pre = c .before .before .before .before .before .before .before .before .before .before .before .pre in
+    let args = c .before .before .before .before .before .before .before .args in
+    let encode = c .before .before .encode in
+    let pre = c .before .before .before .before .before .before .before .pre in
     let l = now (args .places) in
     omega (arith, encode .ensures .0, snapshot-long (args .chip) l, values-short l, pre .1)
 
@@ -43,12 +40,12 @@ same-length c = search needs
 returns : tie.Need-returns
 returns c =
     let decode = c .before .before .decode in
-    let args = c .before .before .before .before .before .before .before .before .before .before .before .before .before .before .before .before .args in
-    let encode = c .before .before .before .before .before .before .before .before .before .before .before .encode in
-    let clear = c .before .before .before .before .before .before .before .before .clear in
-    let pre = c .before .before .before .before .before .before .before .before .before .before .before .before .before .before .before .before .pre in
+    let args = c .before .before .before .before .before .before .before .before .before .before .before .before .args in
+    let encode = c .before .before .before .before .before .before .before .encode in
+    let pre = c .before .before .before .before .before .before .before .before .before .before .before .before .pre in
+    let l = now (args .places) in
     decode .ensures .left
-    ∙ resaved-from (args .chip) (encode .result) (now (args .largest)) (now (args .places)) (replicate mostBytes 0) (encode .last .1 .1 .0) (clear .last .0) (pre .0) (encode .ensures .0) (encode .ensures .1) (clear .ensures)
+    ∙ resaved-from (args .chip) (encode .result) (now (args .largest)) l (replicate mostBytes 0) (encode .last .1 .1 .0) (pre .0) (omega (arith, pre .1)) (encode .ensures .0) (encode .ensures .1)
 
 pub save-places-spec : {M : Type 1} → statement M
 save-places-spec =
@@ -56,7 +53,6 @@ save-places-spec =
     (tie.spec
     slice-aggregate-encode
     encode-requires
-    clear-requires
     sub-decode
     part-decode-start
     part-decode-end

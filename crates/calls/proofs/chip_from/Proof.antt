@@ -1,0 +1,19 @@
+-- `chip_from` meets its contract.
+use borrow.Author.Needs.{needs}
+use Rattle.calls.proofs.chip_from.Statement.{statement}
+use Rattle.calls.proofs.chip_from.Tie as tie
+
+from-places-requires : tie.Need-from-places-requires
+from-places-requires c κs = search needs
+
+from-places-requires-2 : tie.Need-from-places-requires-2
+from-places-requires-2 c κs = search needs
+
+returns : tie.Need-returns
+returns c =
+    let one = c .before .from-places in
+    let two = c .from-places2 in
+    λ i. record { number = c .before .before .args .number; one = one .ensures i; two = two .ensures i }
+
+pub chip-from-spec : {M : Type 1} → statement M
+chip-from-spec = tie.close (tie.spec from-places-requires from-places-requires-2 returns)

@@ -1,0 +1,174 @@
+// Plays calls on a state, each by itself, from records on standard input, and prints all that comes back: numbers, answers, places, and every byte of a lent buffer.
+// A record starts with its call: 0 event, 1 save, 2 restore. Any other byte, and the input's end, ends the program.
+// A state is its chip byte and all places of chip 1 and of chip 2, whatever their values. An event has a state, a kind and 8 operand bytes; a save a state, the room that is lent (2 bytes, low first) and the byte that fills the buffer; a restore the snapshot's length (2 bytes) and its bytes.
+ghost use mathlib.Core.Path.{_≡_};
+ghost use Prim.Native.Nat.{_+_, _*_, _≤_, _<_};
+ghost use lib.ListN.{length, getD};
+ghost use Rattle.tlc34058.specs.Places as places₁;
+ghost use Rattle.hd153129.specs.Places as places₂;
+ghost use Rattle.chip.specs.Struct.{wholeOf};
+use chip::Chip;
+use libc::STDIN_FILENO;
+use libc::STDOUT_FILENO;
+
+// The most bytes of a snapshot to restore, and of a buffer to save into.
+const ROOM: usize = 4096;
+
+// The most records that one run plays.
+const MOST_CALLS: usize = 65536;
+
+// The state with this chip byte and these places.
+fn chip_from(number: u8, one: [u8; 789], two: [u8; 774]) -> Chip
+    ensures { λ r. ⌜ wholeOf r ≡ record { number = number; one = places₁.stateFrom one; two = places₂.stateFrom two } ⌝ }
+{
+    Chip {
+        number,
+        tlc34058: tlc34058::from_places(one),
+        hd153129: hd153129::from_places(two),
+    }
+}
+
+fn wide(x: u8) -> usize
+    ensures { λ r. ⌜ (r ≡ x) × (r < 256) ⌝ }
+{
+    x as usize
+}
+
+// The number of the first two bytes, the low one first.
+fn word(bytes: &[u8]) -> usize
+    requires { ⌜ 2 ≤ length (now bytes) ⌝ }
+    ensures { λ r. ⌜ r ≡ getD (now (bytes .entry)) 0 0 + 256 * getD (now (bytes .entry)) 1 0 ⌝ }
+{
+    wide(bytes[0]) + 256 * wide(bytes[1])
+}
+
+fn read_chip() -> Chip {
+    let mut number = [0u8; 1];
+    let mut one = [0u8; 789];
+    let mut two = [0u8; 774];
+    io::read_full(STDIN_FILENO, &mut number);
+    io::read_full(STDIN_FILENO, &mut one);
+    io::read_full(STDIN_FILENO, &mut two);
+    chip_from(number[0], one, two)
+}
+
+fn print_digits(bytes: &[u8])
+    requires { ⌜ length (now bytes) ≤ 4096 ⌝ }
+{
+    let mut digits = [0u8; 2 * ROOM];
+    hex::put_hex(bytes, &mut digits);
+    let to = 2 * bytes.len();
+    io::write_all(STDOUT_FILENO, &digits[0..to]);
+}
+
+fn end_line() {
+    io::write_all(STDOUT_FILENO, b"\n");
+}
+
+fn print_chip(chip: Chip) {
+    let number = [chip.number; 1];
+    let one = tlc34058::to_places(chip.tlc34058);
+    let two = hd153129::to_places(chip.hd153129);
+    print_digits(&number);
+    print_digits(&one);
+    print_digits(&two);
+    end_line();
+}
+
+fn print_answer(answer: [u8; 18]) {
+    print_digits(&answer);
+    end_line();
+}
+
+// The answer, and the state that comes back.
+fn play_event() {
+    let chip = read_chip();
+    let mut call = [0u8; 9];
+    io::read_full(STDIN_FILENO, &mut call);
+    let operand = log::operand(&call, 1);
+    let turn = chip::event(chip, call[0], operand);
+    let answer = turn.answer;
+    print_answer(answer);
+    print_chip(turn.chip);
+}
+
+// Saves into the first room bytes of a buffer. The refusal, and the length.
+fn save_into(chip: Chip, buffer: &mut [u8], room: usize) {
+    if buffer.len() < room {
+        return;
+    }
+    let saved = chip::save(chip, &mut buffer[0..room]);
+    io::print_decimal(STDOUT_FILENO, saved.refusal as u64);
+    io::write_all(STDOUT_FILENO, b" ");
+    io::print_decimal(STDOUT_FILENO, saved.length as u64);
+    end_line();
+}
+
+// The refusal and the length, and the whole buffer, of which only the room was lent.
+fn play_save() {
+    let chip = read_chip();
+    let mut call = [0u8; 3];
+    io::read_full(STDIN_FILENO, &mut call);
+    let filling = call[2];
+    let mut buffer = [filling; ROOM];
+    save_into(chip, &mut buffer, word(&call));
+    print_digits(&buffer);
+    end_line();
+}
+
+// Reads the first length bytes of a buffer.
+fn read_part(bytes: &mut [u8], length: usize) {
+    if bytes.len() < length {
+        return;
+    }
+    io::read_full(STDIN_FILENO, &mut bytes[0..length]);
+}
+
+// The refusal, and the state.
+fn play_restore() {
+    let mut call = [0u8; 2];
+    io::read_full(STDIN_FILENO, &mut call);
+    let length = word(&call);
+    if ROOM < length {
+        return;
+    }
+    let mut bytes = [0u8; ROOM];
+    read_part(&mut bytes, length);
+    let restored = chip::restore(&bytes[0..length]);
+    io::print_decimal(STDOUT_FILENO, restored.refusal as u64);
+    end_line();
+    print_chip(restored.chip);
+}
+
+// Plays one record; false where there is none.
+fn play_next() -> bool {
+    let mut call = [0u8; 1];
+    let got = io::read_full(STDIN_FILENO, &mut call);
+    if got == 0 {
+        return false;
+    }
+    if call[0] == 0 {
+        play_event();
+        return true;
+    }
+    if call[0] == 1 {
+        play_save();
+        return true;
+    }
+    if call[0] == 2 {
+        play_restore();
+        return true;
+    }
+    false
+}
+
+fn main() {
+    let mut i: usize = 0;
+    while i < MOST_CALLS {
+        if play_next() {
+            i += 1;
+            continue;
+        }
+        return;
+    }
+}

@@ -1,5 +1,4 @@
 -- The state by its chip byte: what a snapshot, a save and an event come to.
--- Assumes nothing.
 use Prim.Native.Nat.{ℕ, _≤_, _<_}
 use mathlib.Core.Path.{_≡_, refl, sym, _∙_, ap, subst}
 use mathlib.Core.Bool.{false}

@@ -1,5 +1,4 @@
 -- Saving and then restoring gives the same state; for every accepted snapshot restoring and then saving gives the same bytes.
--- Assumes nothing.
 use Prim.Native.Nat.{ℕ}
 use mathlib.Core.Path.{_≡_, sym, _∙_, ap}
 use mathlib.Core.List.{List}

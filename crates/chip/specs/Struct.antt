@@ -1,5 +1,4 @@
 -- The state that the structs of the code stand for, with the part of the chip that isn't named beside it.
--- Assumes nothing.
 use Prim.Native.Nat.{ℕ}
 use mathlib.Core.Path.{_≡_}
 use mathlib.Core.Bool.{cond}

@@ -1,5 +1,4 @@
 -- Colour accesses, as both chips make them: the entry's three components go one by one through the held bytes.
--- Assumes nothing.
 use Prim.Native.Nat.{ℕ, _+_, _*_}
 use mathlib.Core.Bool.{cond}
 use mathlib.Core.List.{List}

@@ -1,5 +1,4 @@
 -- The address (ADDR0-7) and the position (ADDRa,b: 0 red, 1 green, 2 blue), and how each moves on.
--- Assumes nothing.
 use Prim.Native.Nat.{ℕ, zero, suc, _+_, _%_}
 use mathlib.Core.Bool.{cond}
 use lib.Dec.{ltb}

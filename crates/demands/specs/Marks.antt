@@ -1,5 +1,4 @@
 -- Document 01's marked lines M1 to M10: one table, and one proposition over its rows. A row that can't tell right from wrong on a fresh chip (M7) has one beside it that can.
--- Assumes nothing.
 use Prim.Native.Nat.{ℕ, suc}
 use mathlib.Core.Bool.{Bool, true, false, cond, _&&_}
 use mathlib.Core.List.{List, [], _∷_}

@@ -1,5 +1,4 @@
 -- What the selector comes to, case by case, and the state that a changed struct stands for.
--- Assumes nothing.
 use Prim.Native.Nat.{ℕ, _%_}
 use mathlib.Core.Path.{_≡_, refl, sym, _∙_, ap}
 use mathlib.Core.List.{List}

@@ -1,7 +1,6 @@
 -- A tick's answer, store by store.
--- Assumes nothing.
 use Prim.Native.Nat.{ℕ, _+_, _*_, _%_, _≤_}
-use mathlib.Core.Path.{_≡_, refl, sym, _∙_, ap}
+use mathlib.Core.Path.{_≡_, sym}
 use mathlib.Core.List.{List}
 use native.Mathlib.Nat.{div-one, add-zero}
 use borrow.Author.Tests.{le-ltb, eq-eqb, ne-eqb}

@@ -1,5 +1,4 @@
 -- A state whose values are at most their places' largest, part by part, and the accesses that keep it so.
--- Assumes nothing.
 use Prim.Native.Nat.{ℕ, _≤_, _%_}
 use mathlib.Core.Path.{_≡_, _∙_}
 use native.Mathlib.Omega.{arith}
@@ -8,7 +7,6 @@ use lib.ListN.{length, getD}
 use Rattle.laws.proofs.Tests.{cond-all}
 use Rattle.event.specs.Event.{Raw, operandAt}
 use Rattle.counters.proofs.Laws.{address-small}
-use Rattle.colour.specs.Colour.{Cursor}
 use Rattle.colour.proofs.Laws as colour
 use Rattle.hd153129.specs.State.{State}
 use Rattle.hd153129.specs.Port.{Access, refuse, setAddress, setColour, setMask, getAddress, getColour, getMask, accessRefusal, requestWrite, requestRead, request, next}

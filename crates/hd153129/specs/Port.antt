@@ -1,6 +1,5 @@
 -- Document 01's "Chip 2": writes and reads through RS1 and RS0 (the data sheet's Table 2).
--- Assumes nothing.
-use Prim.Native.Nat.{ℕ, _+_, _%_}
+use Prim.Native.Nat.{ℕ, _%_}
 use mathlib.Core.Bool.{Bool, true, false, cond}
 use mathlib.Core.List.{List}
 use lib.Dec.{ltb, eqb}

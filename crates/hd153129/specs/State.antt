@@ -1,5 +1,4 @@
 -- The state of an HD153129. Accesses move all of it, display events nothing.
--- Assumes nothing.
 use Prim.Native.Nat.{ℕ}
 use mathlib.Core.List.{List}
 use lib.ListN.{replicate}

@@ -1,12 +1,11 @@
 -- Document 01's chip 2 tick: one pixel.
--- Assumes nothing.
 use Prim.Native.Nat.{ℕ, _+_, _*_}
 use mathlib.Core.Bool.{cond}
-use mathlib.Core.List.{List, [], _∷_}
+use mathlib.Core.List.{List, _∷_}
 use lib.Dec.{ltb, eqb}
 use lib.ListN.{getD, replicate}
 use lib.Bits.{bitAnd}
-use Rattle.event.specs.Event.{Raw, operandAt, bit, refused}
+use Rattle.event.specs.Event.{Raw, bit, refused}
 use Rattle.hd153129.specs.State.{State}
 
 -- component k of the entry at pixel AND mask; 0 if BLANK is 0

@@ -1,5 +1,4 @@
 -- Bytes as lowercase hexadecimal digits, in ASCII.
--- Assumes nothing.
 use Prim.Native.Nat.{ℕ, _+_, _/_, _%_}
 use mathlib.Core.Bool.{cond}
 use mathlib.Core.List.{List, [], _∷_}

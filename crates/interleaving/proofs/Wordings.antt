@@ -1,5 +1,4 @@
 -- The two wordings of the condition: accesses that alter the display have equally many display events before them in both logs, and the same display events stand between the same such accesses.
--- Assumes nothing.
 use mathlib.Core.Path.{_≡_, refl, sym, _∙_, ap}
 use mathlib.Core.Bool.{Bool, true, false, false≢true}
 use mathlib.Core.List.{List, [], _∷_}

@@ -1,5 +1,4 @@
 -- Byte strings: what a slice of bytes holds, and all that a caller can hand in.
--- Assumes nothing.
 use Prim.Native.Nat.{ℕ, _<_}
 use mathlib.Core.List.{List}
 use lib.ListN.{getD}

@@ -1,5 +1,4 @@
 -- A chip's state and its places, for any chip: what follows of snapshots from how the one is made of the other.
--- Assumes nothing.
 use Prim.Native.Nat.{ℕ, _≤_}
 use mathlib.Core.Path.{_≡_, _∙_, ap}
 use mathlib.Core.List.{List}

@@ -1,5 +1,4 @@
 -- A snapshot: the places of a chip that aren't 0, as bytes, and the way back. For any chip number and any table of largest values; a chip has as many places as its table.
--- Assumes nothing.
 use Prim.Native.Nat.{ℕ, suc, _+_, _*_, _/_, _%_, _≤_}
 use mathlib.Core.Path.{_≡_}
 use mathlib.Core.Bool.{Bool, true, false, cond, _&&_}

@@ -1,14 +1,13 @@
 -- An access alters the display exactly when document 01's disjunction holds.
--- Assumes nothing.
 use Prim.Native.Nat.{ℕ, zero, suc}
-use mathlib.Core.Path.{_≡_, refl, sym, _∙_}
-use mathlib.Core.Bool.{Bool, true, false, cond, _||_, or-false}
+use mathlib.Core.Path.{_≡_, refl, sym}
+use mathlib.Core.Bool.{Bool, true, false, _||_, or-false}
 use native.Mathlib.Omega.{arith}
-use borrow.Author.Tests.{eq-eqb, ne-eqb, lt-ltb, le-ltb}
+use borrow.Author.Tests.{ne-eqb, lt-ltb, le-ltb}
 use lib.Dec.{eqb, ltb}
 use Rattle.event.specs.Event.{Raw, operandAt}
 use Rattle.tlc34058.specs.State.{Port}
-use Rattle.tlc34058.specs.Port.{Access, refuse, setRegister, accessRefusal, select, writing, request, altersDisplay}
+use Rattle.tlc34058.specs.Port.{accessRefusal, select, writing, request, altersDisplay}
 use Rattle.tlc34058.specs.Painting.{paints}
 use Rattle.tlc34058.proofs.Sound.{select-all}
 

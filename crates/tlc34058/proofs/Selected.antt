@@ -1,11 +1,9 @@
 -- What the selector comes to, case by case, and the state that a changed struct stands for.
--- Assumes nothing.
 use Prim.Native.Nat.{ℕ, _+_, _≤_}
 use mathlib.Core.Path.{_≡_, refl, sym, _∙_, ap}
 use mathlib.Core.List.{List}
-use native.Mathlib.Omega.{arith}
-use borrow.Author.Tests.{eq-eqb, ne-eqb, eqb-true, eqb-false, ltb-true, ltb-false}
-use lib.Dec.{eqb, ltb}
+use borrow.Author.Tests.{eq-eqb, ne-eqb, eqb-false, ltb-false}
+use lib.Dec.{ltb}
 use Rattle.laws.proofs.Tests.{passed}
 use Rattle.colour.specs.Colour.{Cursor}
 use Rattle.colour.specs.Struct.{cursorOf}

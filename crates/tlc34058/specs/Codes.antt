@@ -1,5 +1,4 @@
 -- Three codes as a struct of the code holds them.
--- Assumes nothing.
 use Prim.Native.Nat.{ℕ}
 use mathlib.Core.Path.{_≡_}
 use Rattle.tlc34058.specs.declared.tick.Codes as code

@@ -1,5 +1,4 @@
 -- Document 01's "Painting" of chip 1, said by itself: which accesses alter the display, and a table of accesses that do and that don't.
--- Assumes nothing.
 use Prim.Native.Nat.{ℕ}
 use mathlib.Core.Bool.{Bool, true, false, not, _&&_, _||_}
 use mathlib.Core.List.{List, [], _∷_}

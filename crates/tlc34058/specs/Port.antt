@@ -1,5 +1,4 @@
 -- Document 01's "Chip 1 port": writes and reads through C1 and C0.
--- Assumes nothing.
 use Prim.Native.Nat.{ℕ, _+_}
 use mathlib.Core.Bool.{Bool, true, false, cond}
 use mathlib.Core.List.{List}

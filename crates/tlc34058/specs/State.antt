@@ -1,5 +1,4 @@
 -- The state of a TLC34058: what accesses move, and what display events move.
--- Assumes nothing.
 use Prim.Native.Nat.{ℕ}
 use mathlib.Core.List.{List}
 use lib.ListN.{replicate}

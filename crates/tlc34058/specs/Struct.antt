@@ -1,11 +1,10 @@
 -- The state that the structs of the code stand for.
--- Assumes nothing.
 use Prim.Native.Nat.{ℕ}
 use mathlib.Core.Path.{_≡_}
 use mathlib.Core.List.{List}
 use Rattle.event.specs.Event.{Played}
 use Rattle.colour.specs.Struct.{cursorOf}
-use Rattle.tlc34058.specs.State.{Registers, Port, State}
+use Rattle.tlc34058.specs.State.{Registers, State}
 use Rattle.tlc34058.specs.Port.{Access, next, reply}
 use Rattle.tlc34058.specs.declared.Control as control
 use Rattle.tlc34058.specs.declared.Tlc34058 as code

@@ -1,12 +1,11 @@
 -- Document 01's "Chip 1 tick" and the vertical period.
--- Assumes nothing.
 use Prim.Native.Nat.{ℕ, zero, suc, _+_, _-_, _*_, _%_}
-use mathlib.Core.Bool.{Bool, true, false, not, cond, _&&_, _||_}
+use mathlib.Core.Bool.{Bool, not, cond, _&&_, _||_}
 use mathlib.Core.List.{List, [], _∷_, _++_}
 use lib.Dec.{ltb, eqb}
 use lib.ListN.{getD}
 use lib.Bits.{bitAnd}
-use Rattle.event.specs.Event.{Raw, operandAt, bit, refused, done}
+use Rattle.event.specs.Event.{Raw, bit, refused, done}
 use Rattle.tlc34058.specs.State.{Registers, Port, Display}
 
 -- CR7 0: four pixels A to D; CR7 1: five

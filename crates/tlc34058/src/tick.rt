@@ -2,8 +2,7 @@
 ghost use mathlib.Core.Path.{_≡_};
 ghost use mathlib.Core.List.{_++_};
 ghost use Prim.Native.Nat.{_+_, _*_, _≤_, _<_};
-ghost use lib.ListN.{length, take, getD};
-ghost use Rattle.event.specs.Event.{bit};
+ghost use lib.ListN.{length, take};
 ghost use Rattle.tlc34058.specs.Tick.{pixelCount, blinkOn, maskedPixel, overlayBit, entryOf, codeOf, codeAt, codesUpTo, shownPixels, undefinedBits, tick};
 ghost use Rattle.tlc34058.specs.Struct.{registersOf, joined};
 ghost use Rattle.tlc34058.specs.Codes.{CodesAre};

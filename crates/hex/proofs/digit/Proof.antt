@@ -1,5 +1,4 @@
 -- `digit` meets its contract: the test that led to each return is that of the definition.
--- Assumes nothing.
 use borrow.Author.Tests.{le-ltb, lt-ltb}
 use borrow.Author.Needs.{needs}
 use Rattle.hex.proofs.digit.Statement.{statement}

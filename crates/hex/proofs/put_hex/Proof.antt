@@ -1,5 +1,4 @@
 -- `put_hex` meets its contract: what is left to store from byte i on gives the whole.
--- Assumes nothing.
 use Rattle.hex.proofs.Laws.{hex-put, hex-done}
 use Rattle.hex.specs.Hex.{hexOf}
 use borrow.Author.Needs.{needs}

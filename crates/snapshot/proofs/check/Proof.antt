@@ -1,5 +1,4 @@
 -- `check` meets its contract: the tests that led to each return are those of the definition.
--- Assumes nothing.
 use Rattle.snapshot.proofs.Pairs.{part-rest}
 use native.Mathlib.Omega.{arith}
 use Prim.Native.Nat.{_+_, _-_, _*_}

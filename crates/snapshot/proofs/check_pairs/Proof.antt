@@ -1,5 +1,4 @@
 -- `check_pairs` meets its contract: the pairs that are left from j on decide the whole.
--- Assumes nothing.
 use Prim.Native.Nat.{_+_, _*_, _≤_, _-_}
 use native.Mathlib.Omega.{arith}
 use mathlib.Core.Path.{_≡_}

@@ -1,5 +1,4 @@
 -- `copy` meets its contract: the elements before i are copied.
--- Assumes nothing.
 use Rattle.laws.proofs.Lists.{copy-more, copy-all}
 use denote.Ref.{now}
 use lib.ListN.{length, getD, set, take, drop, length-set}

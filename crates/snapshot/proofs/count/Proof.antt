@@ -1,5 +1,4 @@
 -- `count` meets its contract: what is left to count from i on makes up the whole.
--- Assumes nothing.
 use Rattle.snapshot.proofs.Stores.{counted-more}
 use Rattle.snapshot.specs.Snapshot.{valuesOf}
 use denote.Ref.{now}

@@ -1,5 +1,4 @@
 -- `decode` meets its contract: an accepted snapshot has the parts that are read.
--- Assumes nothing.
 use Prim.Native.Nat.{_+_, _-_, _*_}
 use native.Mathlib.Omega.{arith}
 use mathlib.Core.Path.{_≡_, _∙_, sym}

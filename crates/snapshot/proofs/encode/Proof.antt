@@ -1,5 +1,4 @@
 -- `encode` meets its contract.
--- Assumes nothing.
 use Rattle.snapshot.proofs.Stores.{snapshot-long, snapshot-stored}
 use Rattle.snapshot.specs.Snapshot.{valuesOf}
 use denote.Ref.{now}

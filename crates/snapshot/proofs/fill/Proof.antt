@@ -1,5 +1,4 @@
 -- `fill` meets its contract.
--- Assumes nothing.
 use Rattle.snapshot.proofs.Parts.{copied-back}
 use denote.Ref.{now}
 use lib.ListN.{length}

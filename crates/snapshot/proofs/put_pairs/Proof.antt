@@ -1,5 +1,4 @@
 -- `put_pairs` meets its contract: what is left to store from place i on gives the whole.
--- Assumes nothing.
 use Rattle.snapshot.proofs.Stores.{pairsLeft, pair-skipped, pair-put, pairs-done, values-zero, values-more, values-short}
 use Rattle.snapshot.specs.Snapshot.{valuesOf}
 use denote.Ref.{now}

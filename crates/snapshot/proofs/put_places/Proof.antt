@@ -1,5 +1,4 @@
 -- `put_places` meets its contract: the pairs that are left from j on give the whole.
--- Assumes nothing.
 use Prim.Native.Nat.{_*_, _≤_, _-_}
 use native.Mathlib.Omega.{arith}
 use mathlib.Core.Path.{_≡_}

@@ -1,5 +1,4 @@
 -- `save_places` meets its contract.
--- Assumes nothing.
 use Rattle.snapshot.specs.Snapshot.{mostBytes}
 use Rattle.snapshot.proofs.RoundTrip.{resaved-from}
 use Rattle.snapshot.proofs.Stores.{snapshot-long, values-short}

@@ -1,5 +1,4 @@
 -- `some` meets its contract.
--- Assumes nothing.
 use borrow.Author.Tests.{eq-eqb, ne-eqb}
 use mathlib.Core.Path.{sym}
 use native.Mathlib.Omega.{arith}

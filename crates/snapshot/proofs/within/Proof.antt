@@ -1,5 +1,4 @@
 -- `within` meets its contract: what is left to test from i on decides the whole.
--- Assumes nothing.
 use Prim.Native.Nat.{_≤_, _-_}
 use mathlib.Core.Path.{_≡_, refl, sym}
 use native.Mathlib.Omega.{arith}

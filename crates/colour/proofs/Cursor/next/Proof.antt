@@ -1,5 +1,4 @@
 -- `Cursor::next` meets its contract.
--- Assumes nothing.
 use Rattle.colour.specs.Colour.{onward}
 use borrow.Author.Tests.{eq-eqb, ne-eqb}
 use borrow.Author.Needs.{needs}

@@ -1,5 +1,4 @@
 -- `Cursor::read` meets its contract.
--- Assumes nothing.
 use denote.Ref.{now}
 use lib.ListN.{getD}
 use mathlib.Core.Path.{ap}

@@ -1,5 +1,4 @@
 -- `Cursor::write` meets its contract.
--- Assumes nothing.
 use lib.Dec.{eqb}
 use Rattle.colour.specs.Colour.{held, stored}
 use lib.ListN.{length-set}

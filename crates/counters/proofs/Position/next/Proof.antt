@@ -1,5 +1,4 @@
 -- `Position::next` meets its contract.
--- Assumes nothing.
 use borrow.Author.Needs.{needs}
 use borrow.Author.Tests.{lt-ltb, le-ltb}
 use Rattle.counters.proofs.Position.next.Statement.{statement}

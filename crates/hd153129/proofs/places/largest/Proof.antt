@@ -1,5 +1,4 @@
 -- `largest` meets its contract: both lists compute to the same.
--- Assumes nothing.
 use Rattle.hd153129.specs.Places.{largest}
 use mathlib.Core.Path.{refl}
 use borrow.Author.Needs.{needs}

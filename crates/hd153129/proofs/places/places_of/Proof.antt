@@ -1,5 +1,4 @@
 -- `places_of` meets its contract.
--- Assumes nothing.
 use Rattle.hd153129.specs.Struct.{joined}
 use Rattle.hd153129.specs.Places.{tailOf, placesOf}
 use Rattle.laws.proofs.Lists.{stored-behind}

@@ -1,5 +1,4 @@
 -- `after_read` meets its contract.
--- Assumes nothing.
 use Rattle.hd153129.proofs.Selected.{read-colour, read-stays, joined-by}
 use Rattle.hd153129.specs.Struct.{joined}
 use Rattle.hd153129.specs.Port.{next}

@@ -1,5 +1,4 @@
 -- `read` meets its contract.
--- Assumes nothing.
 use Rattle.hd153129.proofs.Selected.{read-refused, accessed}
 use Rattle.event.specs.Event.{answerOf}
 use denote.Ref.{now}

@@ -1,5 +1,4 @@
 -- `value` meets its contract.
--- Assumes nothing.
 use Rattle.hd153129.proofs.Selected.{read-colour, read-mask, read-address}
 use Rattle.hd153129.specs.Struct.{joined}
 use Rattle.hd153129.specs.Port.{reply}

@@ -1,5 +1,4 @@
 -- `write` meets its contract.
--- Assumes nothing.
 use Rattle.hd153129.proofs.Selected.{write-refused, write-address, write-read-address, write-colour, write-mask, joined-by, accessed}
 use Rattle.hd153129.specs.Struct.{joined}
 use Rattle.hd153129.specs.Port.{next}

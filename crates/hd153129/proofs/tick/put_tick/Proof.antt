@@ -1,5 +1,4 @@
 -- `put_tick` meets its contract.
--- Assumes nothing.
 use Rattle.hd153129.proofs.Shown.{shown, blank}
 use Rattle.hd153129.specs.Tick.{tickOf}
 use denote.Ref.{now}

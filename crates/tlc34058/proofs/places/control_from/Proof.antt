@@ -1,5 +1,4 @@
 -- `control_from` meets its contract.
--- Assumes nothing.
 use Rattle.tlc34058.specs.Places.{stateFrom}
 use mathlib.Core.Path.{refl}
 use borrow.Author.Needs.{needs}

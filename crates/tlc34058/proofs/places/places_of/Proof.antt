@@ -1,5 +1,4 @@
 -- `places_of` meets its contract.
--- Assumes nothing.
 use lib.Seq.{sets}
 use Rattle.tlc34058.specs.Struct.{joined}
 use Rattle.tlc34058.specs.Places.{tailOf, placesOf}

@@ -1,5 +1,4 @@
 -- `after_read` meets its contract.
--- Assumes nothing.
 use Rattle.tlc34058.proofs.Selected.{read-address, read-palette, read-overlay, read-register, joined-by}
 use Rattle.tlc34058.specs.Struct.{joined}
 use Rattle.tlc34058.specs.Port.{next}

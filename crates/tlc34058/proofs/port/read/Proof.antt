@@ -1,5 +1,4 @@
 -- `read` meets its contract.
--- Assumes nothing.
 use Rattle.event.specs.Event.{answerOf}
 use Rattle.tlc34058.proofs.Selected.{read-refused, accessed}
 use Rattle.tlc34058.specs.Struct.{joined}

@@ -1,5 +1,4 @@
 -- `register` meets its contract.
--- Assumes nothing.
 use Rattle.tlc34058.specs.Port.{register}
 use borrow.Author.Tests.{eq-eqb, ne-eqb}
 use Rattle.tlc34058.proofs.port.register.Statement.{statement}

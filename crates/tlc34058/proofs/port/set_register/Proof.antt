@@ -1,5 +1,4 @@
 -- `set_register` meets its contract.
--- Assumes nothing.
 use Rattle.tlc34058.specs.Port.{withRegister}
 use borrow.Author.Tests.{eq-eqb, ne-eqb}
 use mathlib.Core.Path.{refl}

@@ -1,5 +1,4 @@
 -- `value` meets its contract.
--- Assumes nothing.
 use Rattle.colour.specs.Colour.{component}
 use Rattle.event.specs.Event.{gave}
 use Rattle.tlc34058.proofs.Selected.{read-address, read-palette, read-overlay, read-register, overlay-low}

@@ -1,5 +1,4 @@
 -- `write` meets its contract.
--- Assumes nothing.
 use Rattle.colour.specs.Colour.{stored}
 use Rattle.event.specs.Event.{answerOf}
 use Rattle.tlc34058.proofs.Selected.{write-refused, write-address, write-palette, write-overlay, write-register, overlay-low, joined-by, accessed}

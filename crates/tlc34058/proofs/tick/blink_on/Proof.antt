@@ -1,6 +1,5 @@
 -- `blink_on` meets its contract.
--- Assumes nothing.
-use Rattle.tlc34058.specs.Tick.{blinkOn, tick}
+use Rattle.tlc34058.specs.Tick.{blinkOn}
 use borrow.Author.Tests.{eq-eqb, ne-eqb}
 use Rattle.tlc34058.proofs.tick.blink_on.Statement.{statement}
 use Rattle.tlc34058.proofs.tick.blink_on.Tie as tie

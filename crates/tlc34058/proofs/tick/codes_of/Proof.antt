@@ -1,6 +1,5 @@
 -- `codes_of` meets its contract.
--- Assumes nothing.
-use Rattle.tlc34058.specs.Tick.{codeOf, tick}
+use Rattle.tlc34058.specs.Tick.{codeOf}
 use native.Mathlib.Nat.{add-zero}
 use borrow.Author.Needs.{needs}
 use Rattle.tlc34058.proofs.tick.codes_of.Statement.{statement}

@@ -1,6 +1,5 @@
 -- `entry_of` meets its contract.
--- Assumes nothing.
-use Rattle.tlc34058.specs.Tick.{entryOf, tick}
+use Rattle.tlc34058.specs.Tick.{entryOf}
 use borrow.Author.Tests.{eq-eqb, ne-eqb}
 use native.Mathlib.Nat.{div-one}
 use mathlib.Core.Path.{sym}

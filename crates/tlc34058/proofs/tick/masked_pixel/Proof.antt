@@ -1,6 +1,5 @@
 -- `masked_pixel` meets its contract.
--- Assumes nothing.
-use Rattle.tlc34058.specs.Tick.{maskedPixel, tick}
+use Rattle.tlc34058.specs.Tick.{maskedPixel}
 use borrow.Author.Needs.{needs}
 use Rattle.tlc34058.proofs.tick.masked_pixel.Statement.{statement}
 use Rattle.tlc34058.proofs.tick.masked_pixel.Tie as tie

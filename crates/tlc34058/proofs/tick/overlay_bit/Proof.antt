@@ -1,6 +1,5 @@
 -- `overlay_bit` meets its contract.
--- Assumes nothing.
-use Rattle.tlc34058.specs.Tick.{overlayBit, tick}
+use Rattle.tlc34058.specs.Tick.{overlayBit}
 use borrow.Author.Needs.{needs}
 use Rattle.tlc34058.proofs.tick.overlay_bit.Statement.{statement}
 use Rattle.tlc34058.proofs.tick.overlay_bit.Tie as tie

@@ -1,6 +1,4 @@
 -- `pixel_count` meets its contract.
--- Assumes nothing.
-use Rattle.tlc34058.specs.Tick.{tick}
 use borrow.Author.Tests.{eq-eqb, ne-eqb}
 use Rattle.tlc34058.proofs.tick.pixel_count.Statement.{statement}
 use Rattle.tlc34058.proofs.tick.pixel_count.Tie as tie

@@ -1,8 +1,7 @@
 -- `put_pixels` meets its contract: after i turns the codes of the pixels below i stand behind the first three bytes.
--- Assumes nothing.
 use Rattle.tlc34058.proofs.Pixels.{Turned, none, turned, whole}
 use Rattle.tlc34058.specs.Struct.{registersOf}
-use Rattle.tlc34058.specs.Tick.{codeAt, tick}
+use Rattle.tlc34058.specs.Tick.{codeAt}
 use lib.ListN.{length, getD, take, length-set}
 use borrow.Author.Needs.{needs}
 use mathlib.Core.Path.{_≡_}

@@ -1,5 +1,4 @@
 -- `put_tick` meets its contract.
--- Assumes nothing.
 use Rattle.tlc34058.proofs.Pixels.{ticked}
 use Rattle.tlc34058.specs.Struct.{joined}
 use Rattle.tlc34058.specs.Tick.{tick}

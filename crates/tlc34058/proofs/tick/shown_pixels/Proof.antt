@@ -1,6 +1,4 @@
 -- `shown_pixels` meets its contract.
--- Assumes nothing.
-use Rattle.tlc34058.specs.Tick.{tick}
 use borrow.Author.Tests.{eq-eqb, ne-eqb}
 use native.Mathlib.Nat.{div-one}
 use mathlib.Core.Path.{sym, _∙_}

@@ -1,6 +1,5 @@
 -- `undefined_bits` meets its contract.
--- Assumes nothing.
-use Rattle.tlc34058.specs.Tick.{undefinedBits, tick}
+use Rattle.tlc34058.specs.Tick.{undefinedBits}
 use borrow.Author.Tests.{le-ltb, lt-ltb}
 use borrow.Author.Needs.{needs}
 use Rattle.tlc34058.proofs.tick.undefined_bits.Statement.{statement}

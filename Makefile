@@ -4,7 +4,7 @@ CFLAGS ?= -O2
 WARNINGS = -std=c11 -Wall -Wextra -pedantic -Werror
 LIBPALETTE ?= target/staticlib/libpalette.a
 REPLAY ?= target/bin/replay
-VERSION ?= 0.1.0
+VERSION = $(shell sed -n 's/^.define PALETTE_VERSION_[A-Z]* //p' include/palette.h | paste -s -d . -)
 SECONDS ?= 600
 SEED ?= 0x7a19e261
 PREFIX ?= /usr/local

@@ -18,18 +18,16 @@
 #include "palette.h"
 #include "plain.h"
 
-enum { LOGS = 40, OPERAND_BYTES = 8, DEFAULT_REPEATS = 25 };
-enum { WRITE, READ, TICK, VERTICAL, SAVE, KINDS };
-enum { LOG_BYTES = 5 + 9 * PALETTE_MOST_EVENTS };
+enum { LOGS = 40, DEFAULT_REPEATS = 25 };
 
 typedef uint64_t run_function(const uint8_t *, size_t, const uint8_t *, size_t,
                               uint8_t *, size_t, uint8_t *, size_t);
 
-/* How many of a thousand events are of each kind, and the ratio to stay at or
- * under. */
+/* How many of a thousand events are writes, reads, ticks, vertical periods and
+ * saves, by their kind bytes, and the ratio to stay at or under. */
 struct mix {
     const char *name;
-    unsigned share[KINDS];
+    unsigned share[PALETTE_KIND_SAVE + 1];
     double goal;
 };
 
@@ -40,10 +38,20 @@ static const struct mix mixes[] = {
     {"save-heavy", {350, 100, 250, 50, 250}, 1.5},
 };
 
+/* What the inputs of a chip are made from. */
+struct chip {
+    uint8_t number;
+    unsigned places, colour_places, colour_largest;
+    void (*make_registers)(uint8_t *places);
+    void (*make_tick)(uint8_t *operand);
+    bool has_low_addresses; /* registers and overlays at addresses 0 to 7 */
+    bool has_vertical_periods;
+};
+
 struct input {
     uint8_t snapshot[PALETTE_END_BYTES];
     size_t snapshot_len;
-    uint8_t log[LOG_BYTES];
+    uint8_t log[PALETTE_MOST_LOG_BYTES];
     size_t log_len, events;
 };
 
@@ -69,43 +77,88 @@ static unsigned below(unsigned limit)
     return (unsigned)(next_random() % limit);
 }
 
-/* A start with colours everywhere and registers that show them. */
-static void make_snapshot(struct input *input, uint8_t chip)
+/* Registers that show the colours. */
+static void make_tlc34058_registers(uint8_t *places)
 {
-    unsigned colours = chip == 1 ? 780 : 768;
-    unsigned most = chip == 1 ? 255 : 63;
-    uint8_t places[789] = {0};
-    for (unsigned place = 0; place < colours; place++)
-        places[place] = (uint8_t)below(most + 1);
-    if (chip == 1) {
-        places[784] = 255;
-        places[785] = (uint8_t)below(256);
-        places[786] = (uint8_t)(0x43 + (below(2) << 7));
-        places[788] = (uint8_t)below(128);
-    } else {
-        places[773] = 255;
-    }
+    places[784] = 255;
+    places[785] = (uint8_t)below(256);
+    places[786] = (uint8_t)(0x43 + (below(2) << 7));
+    places[788] = (uint8_t)below(128);
+}
+
+static void make_hd153129_registers(uint8_t *places)
+{
+    places[773] = 255;
+}
+
+static void make_tlc34058_tick(uint8_t *operand)
+{
+    operand[0] = (uint8_t)below(256);
+    operand[7] = below(8) != 0;
+    for (unsigned pixel = 1; pixel < 5; pixel++)
+        operand[pixel] = (uint8_t)below(256);
+    operand[5] = (uint8_t)(below(32) & below(32));
+    operand[6] = (uint8_t)(below(32) & below(32));
+    operand[7] |= (uint8_t)(below(2) << 1);
+}
+
+static void make_hd153129_tick(uint8_t *operand)
+{
+    operand[0] = (uint8_t)below(256);
+    operand[7] = below(8) != 0;
+}
+
+static const struct chip chips[] = {
+    {
+        .number = PALETTE_CHIP_TLC34058,
+        .places = PALETTE_TLC34058_PLACES,
+        .colour_places = 780,
+        .colour_largest = 255,
+        .make_registers = make_tlc34058_registers,
+        .make_tick = make_tlc34058_tick,
+        .has_low_addresses = true,
+        .has_vertical_periods = true,
+    },
+    {
+        .number = PALETTE_CHIP_HD153129,
+        .places = PALETTE_HD153129_PLACES,
+        .colour_places = 768,
+        .colour_largest = 63,
+        .make_registers = make_hd153129_registers,
+        .make_tick = make_hd153129_tick,
+    },
+};
+enum { CHIPS = sizeof chips / sizeof chips[0] };
+
+/* A start with colours everywhere. */
+static void make_snapshot(struct input *input, const struct chip *chip)
+{
+    uint8_t places[PALETTE_MOST_PLACES] = {0};
+    for (unsigned place = 0; place < chip->colour_places; place++)
+        places[place] = (uint8_t)below(chip->colour_largest + 1);
+    chip->make_registers(places);
 
     unsigned count = 0;
-    for (unsigned place = 0; place < sizeof places; place++)
+    for (unsigned place = 0; place < chip->places; place++)
         count += places[place] != 0;
-    uint8_t *number = input->snapshot + 3, *value = number + 2 * count;
-    for (unsigned place = 0; place < sizeof places; place++) {
+    uint8_t *number = input->snapshot + PALETTE_SNAPSHOT_HEADER_BYTES;
+    uint8_t *value = number + 2 * count;
+    for (unsigned place = 0; place < chip->places; place++) {
         if (places[place] != 0) {
             *number++ = (uint8_t)place;
             *number++ = (uint8_t)(place >> 8);
             *value++ = places[place];
         }
     }
-    input->snapshot[0] = chip;
+    input->snapshot[0] = chip->number;
     input->snapshot[1] = (uint8_t)count;
     input->snapshot[2] = (uint8_t)(count >> 8);
-    input->snapshot_len = 3 + 3 * count;
+    input->snapshot_len = PALETTE_SNAPSHOT_BYTES(count);
 }
 
 /* Most accesses are colour accesses in sequence, as when a table is loaded;
  * some set an address or a register; a few are refused. */
-static void make_access(uint8_t chip, bool write, uint8_t *operand)
+static void make_access(const struct chip *chip, bool write, uint8_t *operand)
 {
     unsigned chance = below(100);
     operand[0] = 1;
@@ -119,54 +172,43 @@ static void make_access(uint8_t chip, bool write, uint8_t *operand)
         operand[0] = 4;
     if (write)
         operand[1] = (uint8_t)below(256);
-    if (write && operand[0] == 0 && chip == 1 && below(3) == 0)
+    if (write && operand[0] == 0 && chip->has_low_addresses && below(3) == 0)
         operand[1] &= 7;
 }
 
-static void make_tick(uint8_t chip, uint8_t *operand)
-{
-    operand[0] = (uint8_t)below(256);
-    operand[7] = below(8) != 0;
-    if (chip == 1) {
-        for (unsigned pixel = 1; pixel < 5; pixel++)
-            operand[pixel] = (uint8_t)below(256);
-        operand[5] = (uint8_t)(below(32) & below(32));
-        operand[6] = (uint8_t)(below(32) & below(32));
-        operand[7] |= (uint8_t)(below(2) << 1);
-    }
-}
-
-static unsigned make_kind(const struct mix *mix, uint8_t chip)
+static unsigned make_kind(const struct mix *mix, const struct chip *chip)
 {
     unsigned chance = below(1000), kind = 0;
     while (chance >= mix->share[kind])
         chance -= mix->share[kind++];
-    /* Chip 2 has no vertical periods: nearly all become ticks. */
-    if (kind == VERTICAL && chip == 2 && below(50) != 0)
-        kind = TICK;
+    /* A chip without vertical periods refuses them: nearly all become ticks. */
+    if (kind == PALETTE_KIND_VERTICAL && !chip->has_vertical_periods && below(50) != 0)
+        kind = PALETTE_KIND_TICK;
     return kind;
 }
 
-static void make_log(struct input *input, const struct mix *mix, uint8_t chip, size_t events)
+static void make_log(struct input *input, const struct mix *mix, const struct chip *chip,
+                     size_t events)
 {
-    uint8_t *kinds = input->log + 5, *operands = kinds + events;
+    uint8_t *kinds = input->log + PALETTE_LOG_HEADER_BYTES, *operands = kinds + events;
     memset(input->log, 0, sizeof input->log);
-    input->log[0] = chip;
+    input->log[0] = chip->number;
     input->log[1] = (uint8_t)events;
     input->log[2] = (uint8_t)(events >> 8);
     for (size_t i = 0; i < events; i++) {
+        uint8_t *operand = operands + PALETTE_OPERAND_BYTES * i;
         unsigned kind = make_kind(mix, chip);
         kinds[i] = (uint8_t)kind;
-        if (kind == WRITE || kind == READ)
-            make_access(chip, kind == WRITE, operands + OPERAND_BYTES * i);
-        else if (kind == TICK)
-            make_tick(chip, operands + OPERAND_BYTES * i);
+        if (kind == PALETTE_KIND_WRITE || kind == PALETTE_KIND_READ)
+            make_access(chip, kind == PALETTE_KIND_WRITE, operand);
+        else if (kind == PALETTE_KIND_TICK)
+            chip->make_tick(operand);
     }
-    input->log_len = 5 + 9 * events;
+    input->log_len = PALETTE_LOG_BYTES(events);
     input->events = events;
 }
 
-static void make_inputs(const struct mix *mix, uint8_t chip, size_t events)
+static void make_inputs(const struct mix *mix, const struct chip *chip, size_t events)
 {
     seed = UINT64_C(0x5EED) + events;
     for (unsigned i = 0; i < LOGS; i++) {
@@ -191,7 +233,7 @@ static bool alike(const struct input *input)
     memset(plain_end, 0x5A, sizeof plain_end);
     uint64_t result = call(palette_run, input, answers, end);
     uint64_t plain_result = call(plain_run, input, plain_answers, plain_end);
-    return result == plain_result && PALETTE_REFUSAL(result) == 0 &&
+    return result == plain_result && PALETTE_REFUSAL(result) == PALETTE_ACCEPTED &&
            memcmp(answers, plain_answers, sizeof answers) == 0 &&
            memcmp(end, plain_end, sizeof end) == 0;
 }
@@ -262,11 +304,12 @@ static struct times measure(unsigned repeats)
     return sum;
 }
 
-static bool all_alike(const char *name, uint8_t chip)
+static bool all_alike(const char *name, const struct chip *chip)
 {
     for (unsigned i = 0; i < LOGS; i++) {
         if (!alike(&inputs[i])) {
-            printf("chip %u, %s, log %u: palette_run and plain_run differ\n", chip, name, i);
+            printf("chip %u, %s, log %u: palette_run and plain_run differ\n", chip->number, name,
+                   i);
             return false;
         }
     }
@@ -276,14 +319,14 @@ static bool all_alike(const char *name, uint8_t chip)
 static bool bench_mixes(unsigned repeats)
 {
     printf("chip  mix           plain ns/event  palette_run ns/event  ratio  goal\n");
-    for (uint8_t chip = 1; chip <= 2; chip++) {
+    for (const struct chip *chip = chips; chip < chips + CHIPS; chip++) {
         for (unsigned i = 0; i < sizeof mixes / sizeof mixes[0]; i++) {
             make_inputs(&mixes[i], chip, PALETTE_MOST_EVENTS);
             if (!all_alike(mixes[i].name, chip))
                 return false;
             struct times times = measure(repeats);
             double ratio = times.palette / times.plain;
-            printf("%4u  %-12s  %14.2f  %20.2f  %5.2f  %4.1f%s\n", chip, mixes[i].name,
+            printf("%4u  %-12s  %14.2f  %20.2f  %5.2f  %4.1f%s\n", chip->number, mixes[i].name,
                    times.plain, times.palette, ratio, mixes[i].goal,
                    ratio > mixes[i].goal ? "  missed" : "");
             fflush(stdout);
@@ -294,17 +337,17 @@ static bool bench_mixes(unsigned repeats)
 
 static bool bench_growth(unsigned repeats)
 {
-    static const size_t sizes[] = {100, 300, 1000, 3000};
+    static const size_t sizes[] = {100, 300, 1000, PALETTE_MOST_EVENTS};
     printf("\nmixed logs by length\n");
     printf("chip  events  plain us/run  palette_run us/run  palette_run ns/event  ratio\n");
-    for (uint8_t chip = 1; chip <= 2; chip++) {
+    for (const struct chip *chip = chips; chip < chips + CHIPS; chip++) {
         for (unsigned i = 0; i < sizeof sizes / sizeof sizes[0]; i++) {
             make_inputs(&mixes[0], chip, sizes[i]);
             if (!all_alike("mixed", chip))
                 return false;
             struct times times = measure(repeats);
             double events = (double)sizes[i];
-            printf("%4u  %6zu  %12.2f  %18.2f  %20.2f  %5.2f\n", chip, sizes[i],
+            printf("%4u  %6zu  %12.2f  %18.2f  %20.2f  %5.2f\n", chip->number, sizes[i],
                    times.plain * events / 1000, times.palette * events / 1000, times.palette,
                    times.palette / times.plain);
             fflush(stdout);
@@ -325,9 +368,9 @@ int main(int argc, char **argv)
     printf("Both buffers are cleared before each run, outside the time taken.\n");
     printf("Of 1,000 events, writes, reads, ticks, vertical periods and saves:\n");
     for (unsigned i = 0; i < sizeof mixes / sizeof mixes[0]; i++)
-        printf("  %-12s %u, %u, %u, %u, %u\n", mixes[i].name, mixes[i].share[WRITE],
-               mixes[i].share[READ], mixes[i].share[TICK], mixes[i].share[VERTICAL],
-               mixes[i].share[SAVE]);
+        printf("  %-12s %u, %u, %u, %u, %u\n", mixes[i].name, mixes[i].share[PALETTE_KIND_WRITE],
+               mixes[i].share[PALETTE_KIND_READ], mixes[i].share[PALETTE_KIND_TICK],
+               mixes[i].share[PALETTE_KIND_VERTICAL], mixes[i].share[PALETTE_KIND_SAVE]);
     printf("On chip 2 nearly all vertical periods are ticks.\n\n");
     return bench_mixes((unsigned)repeats) && bench_growth((unsigned)repeats) ? 0 : 1;
 }

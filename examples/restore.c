@@ -10,13 +10,14 @@
  *
  * It prints what the console shows: a line for each tick with its pixels as
  * colours #rrggbb, and a line for each event that the chip refused. The codes
- * are printed as the chip gives them; chip 2's have 6 bits (00 to 3f), and
- * only the picture scales them to 8. With --ppm the ticks' pixels are also
- * written as a picture, a row for each tick.
+ * are printed as the chip gives them, and only the picture scales those of
+ * fewer bits to 8. With --ppm the ticks' pixels are also written as a picture,
+ * a row for each tick.
  *
- * Exit status: 0 if the log ran, 1 if the run was refused, 2 for wrong usage
- * or a file that can't be read or written. No file is ever left half-written:
- * END and the picture appear whole or not at all, END last of all.
+ * Exit status: 0 if the log ran, 1 if the run was refused, 2 for wrong usage,
+ * a file that can't be read or written, or a chip that the library knows and
+ * this tool doesn't. No file is ever left half-written: END and the picture
+ * appear whole or not at all, END last of all.
  */
 #define _POSIX_C_SOURCE 200809L
 
@@ -31,7 +32,6 @@
 #include "palette.h"
 
 enum { STATUS_RAN = 0, STATUS_REFUSED = 1, STATUS_FAILED = 2 };
-enum { LOG_HEADER = 5, KIND_TICK = 2 };
 
 struct bytes {
     uint8_t *data;
@@ -42,9 +42,22 @@ struct options {
     const char *picture, *snapshot, *log, *end;
 };
 
+/* What this tool knows of a chip. */
+struct chip {
+    uint8_t number;
+    const char *fresh; /* what a fresh one is called on the command line */
+    unsigned colour_bits;
+};
+
+static const struct chip chips[] = {
+    {PALETTE_CHIP_TLC34058, "fresh1", 8},
+    {PALETTE_CHIP_HD153129, "fresh2", 6},
+};
+enum { CHIPS = sizeof chips / sizeof chips[0] };
+
 /* An accepted run: the log's events and their answers. */
 struct run {
-    uint8_t chip;
+    const struct chip *chip;
     size_t events;
     const uint8_t *kinds;
     const uint8_t *answers;
@@ -55,50 +68,70 @@ static void complain(const char *what)
     fprintf(stderr, "restore: %s: %s\n", what, strerror(errno));
 }
 
+/* The chip of this number, or NULL. */
+static const struct chip *chip_numbered(uint8_t number)
+{
+    for (size_t i = 0; i < CHIPS; i++) {
+        if (chips[i].number == number)
+            return &chips[i];
+    }
+    return NULL;
+}
+
+/* The chip that a fresh one of this name is, or NULL. */
+static const struct chip *chip_of_fresh(const char *name)
+{
+    for (size_t i = 0; i < CHIPS; i++) {
+        if (strcmp(chips[i].fresh, name) == 0)
+            return &chips[i];
+    }
+    return NULL;
+}
+
 static const char *refusal_in_words(unsigned refusal)
 {
     switch ((enum palette_refusal)refusal) {
     case PALETTE_ACCEPTED:
         return "not refused";
-    case PALETTE_SELECTOR:
+    case PALETTE_REFUSED_SELECTOR:
         return "the selector is over 3";
-    case PALETTE_ADDRESS:
+    case PALETTE_REFUSED_ADDRESS:
         return "no overlay colour or control register has this address";
-    case PALETTE_DIRECTION:
+    case PALETTE_REFUSED_DIRECTION:
         return "the address was set for the other direction";
-    case PALETTE_TICK_BITS:
+    case PALETTE_REFUSED_TICK_BITS:
         return "the tick sets overlay or level bits that have no meaning";
-    case PALETTE_VERTICAL:
-        return "chip 2 has no vertical periods";
-    case PALETTE_LOG_SHORT:
+    case PALETTE_REFUSED_VERTICAL:
+        return "this chip has no such event";
+    case PALETTE_REFUSED_LOG_SHORT:
         return "the log is shorter than its header";
-    case PALETTE_LOG_CHIP:
+    case PALETTE_REFUSED_LOG_CHIP:
         return "the log names no known chip";
-    case PALETTE_LOG_COUNT:
+    case PALETTE_REFUSED_LOG_COUNT:
         return "the log has too many events";
-    case PALETTE_LOG_LENGTH:
+    case PALETTE_REFUSED_LOG_LENGTH:
         return "the log's length doesn't fit its count";
-    case PALETTE_LOG_KIND:
+    case PALETTE_REFUSED_LOG_KIND:
         return "the log has an event of no known kind";
-    case PALETTE_LOG_UNUSED:
+    case PALETTE_REFUSED_LOG_UNUSED:
         return "the log has an operand byte that should be 0";
-    case PALETTE_SNAPSHOT_SHORT:
+    case PALETTE_REFUSED_SNAPSHOT_SHORT:
         return "the snapshot is shorter than its header";
-    case PALETTE_SNAPSHOT_CHIP:
+    case PALETTE_REFUSED_SNAPSHOT_CHIP:
         return "the snapshot names no known chip";
-    case PALETTE_SNAPSHOT_COUNT:
+    case PALETTE_REFUSED_SNAPSHOT_COUNT:
         return "the snapshot has more places than the chip";
-    case PALETTE_SNAPSHOT_LENGTH:
+    case PALETTE_REFUSED_SNAPSHOT_LENGTH:
         return "the snapshot's length doesn't fit its count";
-    case PALETTE_SNAPSHOT_PLACE:
+    case PALETTE_REFUSED_SNAPSHOT_PLACE:
         return "the snapshot has a place outside the chip or out of order";
-    case PALETTE_SNAPSHOT_VALUE:
+    case PALETTE_REFUSED_SNAPSHOT_VALUE:
         return "the snapshot has a value that is 0 or too large";
-    case PALETTE_TWO_CHIPS:
+    case PALETTE_REFUSED_TWO_CHIPS:
         return "the snapshot and the log are for two chips";
-    case PALETTE_ANSWER_BUFFER:
+    case PALETTE_REFUSED_ANSWER_BUFFER:
         return "the answer buffer is too small";
-    case PALETTE_END_BUFFER:
+    case PALETTE_REFUSED_END_BUFFER:
         return "the end buffer is too small";
     }
     return "unknown refusal";
@@ -106,8 +139,20 @@ static const char *refusal_in_words(unsigned refusal)
 
 static const char *kind_in_words(uint8_t kind)
 {
-    static const char *const words[] = {"write", "read", "tick", "vertical period", "save"};
-    return kind < sizeof words / sizeof words[0] ? words[kind] : "event";
+    switch (kind) {
+    case PALETTE_KIND_WRITE:
+        return "write";
+    case PALETTE_KIND_READ:
+        return "read";
+    case PALETTE_KIND_TICK:
+        return "tick";
+    case PALETTE_KIND_VERTICAL:
+        return "vertical period";
+    case PALETTE_KIND_SAVE:
+        return "save";
+    default:
+        return "event";
+    }
 }
 
 /* Makes room for more bytes. */
@@ -149,28 +194,29 @@ static bool read_file(const char *path, struct bytes *bytes)
 }
 
 /* A fresh chip has 0 in every place, so its snapshot is a header alone. */
-static bool fresh_snapshot(uint8_t chip, struct bytes *snapshot)
+static bool fresh_snapshot(const struct chip *chip, struct bytes *snapshot)
 {
-    snapshot->data = calloc(3, 1);
+    snapshot->data = calloc(PALETTE_SNAPSHOT_HEADER_BYTES, 1);
     if (snapshot->data == NULL) {
         complain("fresh chip");
         return false;
     }
-    snapshot->data[0] = chip;
-    snapshot->len = 3;
+    snapshot->data[0] = chip->number;
+    snapshot->len = PALETTE_SNAPSHOT_HEADER_BYTES;
     return true;
 }
 
 static bool read_snapshot(const char *name, const struct bytes *log, struct bytes *snapshot)
 {
-    if (strcmp(name, "fresh1") == 0)
-        return fresh_snapshot(1, snapshot);
-    if (strcmp(name, "fresh2") == 0)
-        return fresh_snapshot(2, snapshot);
-    /* A log that names no chip gets chip 1, and is then refused as a log. */
-    if (strcmp(name, "-") == 0)
-        return fresh_snapshot(log->len > 0 && log->data[0] == 2 ? 2 : 1, snapshot);
-    return read_file(name, snapshot);
+    const struct chip *chip = chip_of_fresh(name);
+    if (strcmp(name, "-") == 0) {
+        chip = log->len > 0 ? chip_numbered(log->data[0]) : NULL;
+        /* A log that names no known chip is refused as a log, whatever good
+         * snapshot comes with it. */
+        if (chip == NULL)
+            chip = &chips[0];
+    }
+    return chip != NULL ? fresh_snapshot(chip, snapshot) : read_file(name, snapshot);
 }
 
 static bool write_all(int file, const uint8_t *bytes, size_t len)
@@ -242,7 +288,8 @@ static const uint8_t *answer_of(const struct run *run, size_t event)
 
 static bool is_shown_tick(const struct run *run, size_t event)
 {
-    return run->kinds[event] == KIND_TICK && answer_of(run, event)[0] == 0;
+    return run->kinds[event] == PALETTE_KIND_TICK &&
+           answer_of(run, event)[0] == PALETTE_ACCEPTED;
 }
 
 /* A tick's answer: byte 1 the pixel count, byte 2 the levels, then colours. */
@@ -262,14 +309,23 @@ static void print_refused_event(size_t event, uint8_t kind, uint8_t refusal)
            refusal_in_words(refusal));
 }
 
+static void print_chip(const struct chip *chip)
+{
+    printf("chip %u", chip->number);
+    if (chip->colour_bits < 8)
+        printf(", colours of %u bits (00 to %02x)", chip->colour_bits,
+               (1u << chip->colour_bits) - 1);
+    putchar('\n');
+}
+
 /* Prints what the console shows. */
 static bool print_run(const struct run *run, size_t end_length)
 {
     size_t ticks = 0, refused = 0;
-    printf("chip %u%s\n", run->chip, run->chip == 2 ? ", colours of 6 bits (00 to 3f)" : "");
+    print_chip(run->chip);
     for (size_t event = 0; event < run->events; event++) {
         const uint8_t *answer = answer_of(run, event);
-        if (answer[0] != 0) {
+        if (answer[0] != PALETTE_ACCEPTED) {
             print_refused_event(event, run->kinds[event], answer[0]);
             refused++;
         } else if (is_shown_tick(run, event)) {
@@ -299,10 +355,11 @@ static void measure(const struct run *run, size_t *width, size_t *height)
     }
 }
 
-/* Chip 2's 6 bits fill a picture's 8, so that 3fh is full brightness. */
-static uint8_t picture_code(uint8_t chip, uint8_t code)
+/* A code of 4 to 8 bits fills a picture's 8 by repeating its upper bits, so that
+ * the largest code is full brightness. */
+static uint8_t picture_code(const struct chip *chip, uint8_t code)
 {
-    return chip == 2 ? (uint8_t)(code << 2 | code >> 4) : code;
+    return (uint8_t)(code << (8 - chip->colour_bits) | code >> (2 * chip->colour_bits - 8));
 }
 
 /* Rows of fewer pixels end in black. */
@@ -359,11 +416,15 @@ static int run_into(const struct options *options, const struct bytes *snapshot,
         return STATUS_REFUSED;
     }
     struct run run = {
-        .chip = log->data[0],
-        .events = (log->len - LOG_HEADER) / 9,
-        .kinds = log->data + LOG_HEADER,
+        .chip = chip_numbered(log->data[0]),
+        .events = (log->len - PALETTE_LOG_HEADER_BYTES) / PALETTE_EVENT_BYTES,
+        .kinds = log->data + PALETTE_LOG_HEADER_BYTES,
         .answers = answers,
     };
+    if (run.chip == NULL) {
+        fprintf(stderr, "restore: chip %u is not known here, only to the library\n", log->data[0]);
+        return STATUS_FAILED;
+    }
     bool good = print_run(&run, PALETTE_LENGTH(result));
     if (good && options->picture != NULL)
         good = write_picture(&run, options->picture);

@@ -15,13 +15,79 @@
 extern "C" {
 #endif
 
-/* Bytes of one answer. Event i's answer starts at byte 18 * i. */
-#define PALETTE_ANSWER_BYTES 18
+/* The version: three numbers for #if, and the text "major.minor.patch". */
+#define PALETTE_VERSION_MAJOR 0
+#define PALETTE_VERSION_MINOR 1
+#define PALETTE_VERSION_PATCH 0
+#define PALETTE_VERSION                                                        \
+    PALETTE_VERSION_TEXT(PALETTE_VERSION_MAJOR, PALETTE_VERSION_MINOR,         \
+                         PALETTE_VERSION_PATCH)
+/* Only PALETTE_VERSION uses these two. The first expands the numbers, the
+ * second makes text of them. */
+#define PALETTE_VERSION_TEXT(major, minor, patch)                              \
+    PALETTE_VERSION_TEXT_(major, minor, patch)
+#define PALETTE_VERSION_TEXT_(major, minor, patch) #major "." #minor "." #patch
+
+/* The chip byte, which starts every snapshot and every log. */
+enum palette_chip {
+    PALETTE_CHIP_TLC34058 = 1,
+    PALETTE_CHIP_HD153129 = 2
+};
+
+/* The kind byte of an event. */
+enum palette_kind {
+    PALETTE_KIND_WRITE = 0,
+    PALETTE_KIND_READ = 1,
+    PALETTE_KIND_TICK = 2,
+    PALETTE_KIND_VERTICAL = 3,
+    PALETTE_KIND_SAVE = 4
+};
+
+/*
+ * Snapshots.
+ */
+
+/* The chip byte and the 2-byte count. The snapshot of a fresh chip has no more:
+ * its chip byte and a count of 0. */
+#define PALETTE_SNAPSHOT_HEADER_BYTES 3
+/* The 2-byte number of a place and its value. */
+#define PALETTE_PLACE_BYTES 3
+/* How long a snapshot of so many places is. */
+#define PALETTE_SNAPSHOT_BYTES(places)                                         \
+    (PALETTE_SNAPSHOT_HEADER_BYTES + PALETTE_PLACE_BYTES * (size_t)(places))
+/* How many places each chip has, and the most that any chip has. */
+#define PALETTE_TLC34058_PLACES 789
+#define PALETTE_HD153129_PLACES 774
+#define PALETTE_MOST_PLACES PALETTE_TLC34058_PLACES
 /* The smallest end buffer that is accepted, whatever snapshot it will hold:
- * the longest snapshot of chip 1, 3 + 3 * 789 bytes. */
-#define PALETTE_END_BYTES 2370
-/* The most events that a log may hold. */
+ * 2,370 bytes, the longest snapshot of any chip. */
+#define PALETTE_END_BYTES                                                      \
+    (PALETTE_SNAPSHOT_HEADER_BYTES + PALETTE_PLACE_BYTES * PALETTE_MOST_PLACES)
+
+/*
+ * Logs.
+ */
+
+/* The chip byte and the 4-byte count. */
+#define PALETTE_LOG_HEADER_BYTES 5
+/* The operand of an event. */
+#define PALETTE_OPERAND_BYTES 8
+/* An event: its kind byte and its operand. A log has all kind bytes first. */
+#define PALETTE_EVENT_BYTES (1 + PALETTE_OPERAND_BYTES)
+/* How long a log of so many events is. */
+#define PALETTE_LOG_BYTES(events)                                              \
+    (PALETTE_LOG_HEADER_BYTES + PALETTE_EVENT_BYTES * (size_t)(events))
+/* The most events that a log may hold, and how long it is then. */
 #define PALETTE_MOST_EVENTS 3000
+#define PALETTE_MOST_LOG_BYTES                                                 \
+    (PALETTE_LOG_HEADER_BYTES + PALETTE_EVENT_BYTES * PALETTE_MOST_EVENTS)
+
+/*
+ * Answers.
+ */
+
+/* Event i's answer starts at byte PALETTE_ANSWER_BYTES * i. */
+#define PALETTE_ANSWER_BYTES 18
 /* An answer buffer of this size is enough for every log. */
 #define PALETTE_MOST_ANSWER_BYTES (PALETTE_ANSWER_BYTES * PALETTE_MOST_EVENTS)
 
@@ -32,69 +98,68 @@ extern "C" {
 #define PALETTE_LENGTH(result) ((size_t)((uint64_t)(result) & 0xFFFFu))
 
 /*
- * The refusals.
+ * The refusals. A library of another version may have others besides, so a
+ * program should have something to say for a number that isn't here.
  *
- * 1 to 5 are found in byte 0 of an answer. That event left the chip as it was,
- * the answer's other bytes are 0, and the run went on.
+ * In an answer: a refusal in byte 0 says that the event left the chip as it
+ * was. The answer's other bytes are 0, and the run went on.
  *
- * 10 to 31 are returned by palette_run. Nothing was run, and no byte of either
- * buffer was changed. They are looked for in this order: the snapshot (20 to
- * 25), the log (10 to 15), then 26, 30, 31. In each group the smaller number
- * comes first, except that 24 and 25 are looked for together, index by index,
- * and so are 14 and 15: the lowest index decides, and at one index the smaller
- * number.
+ * Of a run: palette_run returns the refusal. Nothing was run, and no byte of
+ * either buffer was changed. It looks at the snapshot (20 to 25), then at the
+ * log (10 to 15), then for 26, 30, 31. In each group the smaller number comes
+ * first, except that 24 and 25 are looked for together, index by index, and so
+ * are 14 and 15: the lowest index decides, and at one index the smaller number.
  */
 enum palette_refusal {
     /* Not refused. */
     PALETTE_ACCEPTED = 0,
 
     /* In an answer: the selector of a write or read is over 3. */
-    PALETTE_SELECTOR = 1,
-    /* In an answer, chip 1: an overlay access with the address over 3, or a
+    PALETTE_REFUSED_SELECTOR = 1,
+    /* In an answer, TLC34058: an overlay access with the address over 3, or a
      * control access with the address outside 4 to 7. */
-    PALETTE_ADDRESS = 2,
-    /* In an answer, chip 2: a colour write in direction read, or a colour read
-     * in direction write. */
-    PALETTE_DIRECTION = 3,
+    PALETTE_REFUSED_ADDRESS = 2,
+    /* In an answer, HD153129: a colour write in direction read, or a colour
+     * read in direction write. */
+    PALETTE_REFUSED_DIRECTION = 3,
     /* In an answer: a tick with OL bits 5 to 7 or undefined level bits set. */
-    PALETTE_TICK_BITS = 4,
-    /* In an answer: a vertical period on chip 2. */
-    PALETTE_VERTICAL = 5,
+    PALETTE_REFUSED_TICK_BITS = 4,
+    /* In an answer, HD153129: a vertical period. */
+    PALETTE_REFUSED_VERTICAL = 5,
 
-    /* The log has under 5 bytes. */
-    PALETTE_LOG_SHORT = 10,
-    /* The log's chip byte isn't 1 or 2. */
-    PALETTE_LOG_CHIP = 11,
-    /* The log's count n is over PALETTE_MOST_EVENTS. */
-    PALETTE_LOG_COUNT = 12,
-    /* The log's length isn't 5 + 9n. */
-    PALETTE_LOG_LENGTH = 13,
-    /* The kind byte of an event is over 4. */
-    PALETTE_LOG_KIND = 14,
-    /* An operand byte that the event doesn't use isn't 0. */
-    PALETTE_LOG_UNUSED = 15,
+    /* Of a run: the log has under PALETTE_LOG_HEADER_BYTES bytes. */
+    PALETTE_REFUSED_LOG_SHORT = 10,
+    /* Of a run: the log's chip byte isn't one of enum palette_chip. */
+    PALETTE_REFUSED_LOG_CHIP = 11,
+    /* Of a run: the log's count n is over PALETTE_MOST_EVENTS. */
+    PALETTE_REFUSED_LOG_COUNT = 12,
+    /* Of a run: the log's length isn't PALETTE_LOG_BYTES(n). */
+    PALETTE_REFUSED_LOG_LENGTH = 13,
+    /* Of a run: a kind byte of the log isn't one of enum palette_kind. */
+    PALETTE_REFUSED_LOG_KIND = 14,
+    /* Of a run: an operand byte that its event doesn't use isn't 0. */
+    PALETTE_REFUSED_LOG_UNUSED = 15,
 
-    /* The snapshot has under 3 bytes. */
-    PALETTE_SNAPSHOT_SHORT = 20,
-    /* The snapshot's chip byte isn't 1 or 2. */
-    PALETTE_SNAPSHOT_CHIP = 21,
-    /* The snapshot's count N is over the chip's number of places (789 for
-     * chip 1, 774 for chip 2). */
-    PALETTE_SNAPSHOT_COUNT = 22,
-    /* The snapshot's length isn't 3 + 3N. */
-    PALETTE_SNAPSHOT_LENGTH = 23,
-    /* A place of the snapshot is outside the chip or not above the place
-     * before it. */
-    PALETTE_SNAPSHOT_PLACE = 24,
-    /* A value of the snapshot is 0 or too large for its place. */
-    PALETTE_SNAPSHOT_VALUE = 25,
-    /* The snapshot and the log are for two chips. */
-    PALETTE_TWO_CHIPS = 26,
+    /* Of a run: the snapshot has under PALETTE_SNAPSHOT_HEADER_BYTES bytes. */
+    PALETTE_REFUSED_SNAPSHOT_SHORT = 20,
+    /* Of a run: the snapshot's chip byte isn't one of enum palette_chip. */
+    PALETTE_REFUSED_SNAPSHOT_CHIP = 21,
+    /* Of a run: the snapshot's count N is over the chip's number of places. */
+    PALETTE_REFUSED_SNAPSHOT_COUNT = 22,
+    /* Of a run: the snapshot's length isn't PALETTE_SNAPSHOT_BYTES(N). */
+    PALETTE_REFUSED_SNAPSHOT_LENGTH = 23,
+    /* Of a run: a place of the snapshot is outside the chip or not above the
+     * place before it. */
+    PALETTE_REFUSED_SNAPSHOT_PLACE = 24,
+    /* Of a run: a value of the snapshot is 0 or too large for its place. */
+    PALETTE_REFUSED_SNAPSHOT_VALUE = 25,
+    /* Of a run: the snapshot and the log are for two chips. */
+    PALETTE_REFUSED_TWO_CHIPS = 26,
 
-    /* The answer buffer has under 18n bytes. */
-    PALETTE_ANSWER_BUFFER = 30,
-    /* The end buffer has under PALETTE_END_BYTES bytes. */
-    PALETTE_END_BUFFER = 31
+    /* Of a run: the answer buffer has under PALETTE_ANSWER_BYTES * n bytes. */
+    PALETTE_REFUSED_ANSWER_BUFFER = 30,
+    /* Of a run: the end buffer has under PALETTE_END_BYTES bytes. */
+    PALETTE_REFUSED_END_BUFFER = 31
 };
 
 /*

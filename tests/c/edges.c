@@ -5,8 +5,9 @@
  *
  *   edges SNAPSHOT LOG
  *
- * The snapshot and the log must be accepted together. They are run whole, then
- * with each shorter length of either, which must be refused.
+ * The snapshot and the log must be accepted together, and the log must hold an
+ * event. They are run whole, then with each shorter length of either, which
+ * must be refused.
  */
 #define _DEFAULT_SOURCE
 
@@ -60,8 +61,9 @@ static uint8_t *place_copy(unsigned string, const uint8_t *bytes, size_t len, bo
     return copy;
 }
 
+/* A snapshot or a log; the longest log is the longer of the two. */
 struct input {
-    uint8_t bytes[65536];
+    uint8_t bytes[PALETTE_MOST_LOG_BYTES];
     size_t len;
 };
 
@@ -88,19 +90,23 @@ static unsigned run(const struct input *snapshot, size_t snapshot_len, const str
 /* The number of runs that were not judged as they should be. */
 static unsigned run_all(const struct input *snapshot, const struct input *log, bool behind)
 {
-    size_t answers_len = (log->len - 5) / 9 * PALETTE_ANSWER_BYTES;
+    size_t events = (log->len - PALETTE_LOG_HEADER_BYTES) / PALETTE_EVENT_BYTES;
+    size_t answers_len = PALETTE_ANSWER_BYTES * events;
     unsigned wrong = 0;
-    wrong += run(snapshot, snapshot->len, log, log->len, answers_len, PALETTE_END_BYTES, behind) != 0;
+    wrong += run(snapshot, snapshot->len, log, log->len, answers_len, PALETTE_END_BYTES,
+                 behind) != PALETTE_ACCEPTED;
     wrong += run(snapshot, snapshot->len, log, log->len, answers_len - 1, PALETTE_END_BYTES,
-                 behind) != PALETTE_ANSWER_BUFFER;
+                 behind) != PALETTE_REFUSED_ANSWER_BUFFER;
     wrong += run(snapshot, snapshot->len, log, log->len, answers_len, PALETTE_END_BYTES - 1,
-                 behind) != PALETTE_END_BUFFER;
+                 behind) != PALETTE_REFUSED_END_BUFFER;
     for (size_t len = 0; len < snapshot->len; len++)
         wrong += run(snapshot, len, log, log->len, answers_len, PALETTE_END_BYTES, behind) !=
-                 (len < 3 ? PALETTE_SNAPSHOT_SHORT : PALETTE_SNAPSHOT_LENGTH);
+                 (len < PALETTE_SNAPSHOT_HEADER_BYTES ? PALETTE_REFUSED_SNAPSHOT_SHORT
+                                                      : PALETTE_REFUSED_SNAPSHOT_LENGTH);
     for (size_t len = 0; len < log->len; len++)
         wrong += run(snapshot, snapshot->len, log, len, answers_len, PALETTE_END_BYTES, behind) !=
-                 (len < 5 ? PALETTE_LOG_SHORT : PALETTE_LOG_LENGTH);
+                 (len < PALETTE_LOG_HEADER_BYTES ? PALETTE_REFUSED_LOG_SHORT
+                                                 : PALETTE_REFUSED_LOG_LENGTH);
     return wrong;
 }
 
@@ -113,11 +119,15 @@ int main(int argc, char **argv)
     }
     read_input(argv[1], &snapshot);
     read_input(argv[2], &log);
+    if (log.len < PALETTE_LOG_BYTES(1)) {
+        fprintf(stderr, "edges: %s has no event\n", argv[2]);
+        return 2;
+    }
     rooms[SNAPSHOT] = make_room(sizeof snapshot.bytes);
     rooms[LOG] = make_room(sizeof log.bytes);
     rooms[ANSWERS] = make_room(PALETTE_MOST_ANSWER_BYTES);
     rooms[END] = make_room(PALETTE_END_BYTES);
-    unsigned wrong = log.len < 14 ? 1 : run_all(&snapshot, &log, true) + run_all(&snapshot, &log, false);
+    unsigned wrong = run_all(&snapshot, &log, true) + run_all(&snapshot, &log, false);
     printf("%u runs judged wrongly\n", wrong);
     return wrong == 0 ? 0 : 1;
 }

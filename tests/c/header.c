@@ -6,24 +6,52 @@
 /* A false fact is an array of negative size, in every language version. */
 #define FACT(name, holds) typedef char fact_##name[(holds) ? 1 : -1]
 
-FACT(answer, PALETTE_ANSWER_BYTES == 18);
+FACT(chips, PALETTE_CHIP_TLC34058 == 1 && PALETTE_CHIP_HD153129 == 2);
+FACT(kinds, PALETTE_KIND_WRITE == 0 && PALETTE_KIND_READ == 1 && PALETTE_KIND_TICK == 2 &&
+                PALETTE_KIND_VERTICAL == 3 && PALETTE_KIND_SAVE == 4);
+
+FACT(snapshot_parts, PALETTE_SNAPSHOT_HEADER_BYTES == 3 && PALETTE_PLACE_BYTES == 3);
+FACT(snapshot, PALETTE_SNAPSHOT_BYTES(0) == 3 && PALETTE_SNAPSHOT_BYTES(1 + 1) == 9);
+FACT(places, PALETTE_TLC34058_PLACES == 789 && PALETTE_HD153129_PLACES == 774);
+FACT(most_places, PALETTE_MOST_PLACES == 789);
 FACT(end, PALETTE_END_BYTES == 2370);
+FACT(log_parts, PALETTE_LOG_HEADER_BYTES == 5 && PALETTE_OPERAND_BYTES == 8 &&
+                    PALETTE_EVENT_BYTES == 9);
+FACT(log, PALETTE_LOG_BYTES(0) == 5 && PALETTE_LOG_BYTES(1 + 1) == 23);
 FACT(events, PALETTE_MOST_EVENTS == 3000);
+FACT(most_log, PALETTE_MOST_LOG_BYTES == 27005);
+FACT(answer, PALETTE_ANSWER_BYTES == 18);
 FACT(answers, PALETTE_MOST_ANSWER_BYTES == 54000);
+
 FACT(accepted, PALETTE_ACCEPTED == 0);
-FACT(in_answers, PALETTE_SELECTOR == 1 && PALETTE_ADDRESS == 2 && PALETTE_DIRECTION == 3 &&
-                     PALETTE_TICK_BITS == 4 && PALETTE_VERTICAL == 5);
-FACT(of_logs, PALETTE_LOG_SHORT == 10 && PALETTE_LOG_CHIP == 11 && PALETTE_LOG_COUNT == 12 &&
-                  PALETTE_LOG_LENGTH == 13 && PALETTE_LOG_KIND == 14 && PALETTE_LOG_UNUSED == 15);
-FACT(of_snapshots, PALETTE_SNAPSHOT_SHORT == 20 && PALETTE_SNAPSHOT_CHIP == 21 &&
-                       PALETTE_SNAPSHOT_COUNT == 22 && PALETTE_SNAPSHOT_LENGTH == 23 &&
-                       PALETTE_SNAPSHOT_PLACE == 24 && PALETTE_SNAPSHOT_VALUE == 25 &&
-                       PALETTE_TWO_CHIPS == 26);
-FACT(of_buffers, PALETTE_ANSWER_BUFFER == 30 && PALETTE_END_BUFFER == 31);
+FACT(in_answers, PALETTE_REFUSED_SELECTOR == 1 && PALETTE_REFUSED_ADDRESS == 2 &&
+                     PALETTE_REFUSED_DIRECTION == 3 && PALETTE_REFUSED_TICK_BITS == 4 &&
+                     PALETTE_REFUSED_VERTICAL == 5);
+FACT(of_logs, PALETTE_REFUSED_LOG_SHORT == 10 && PALETTE_REFUSED_LOG_CHIP == 11 &&
+                  PALETTE_REFUSED_LOG_COUNT == 12 && PALETTE_REFUSED_LOG_LENGTH == 13 &&
+                  PALETTE_REFUSED_LOG_KIND == 14 && PALETTE_REFUSED_LOG_UNUSED == 15);
+FACT(of_snapshots, PALETTE_REFUSED_SNAPSHOT_SHORT == 20 && PALETTE_REFUSED_SNAPSHOT_CHIP == 21 &&
+                       PALETTE_REFUSED_SNAPSHOT_COUNT == 22 &&
+                       PALETTE_REFUSED_SNAPSHOT_LENGTH == 23 &&
+                       PALETTE_REFUSED_SNAPSHOT_PLACE == 24 &&
+                       PALETTE_REFUSED_SNAPSHOT_VALUE == 25 && PALETTE_REFUSED_TWO_CHIPS == 26);
+FACT(of_buffers, PALETTE_REFUSED_ANSWER_BUFFER == 30 && PALETTE_REFUSED_END_BUFFER == 31);
 FACT(refusal, PALETTE_REFUSAL(UINT64_C(31) * 65536) == 31 && PALETTE_REFUSAL(2370) == 0);
 FACT(length, PALETTE_LENGTH(2370) == 2370 && PALETTE_LENGTH(UINT64_C(31) * 65536) == 0);
 
-extern const uint8_t snapshot[3], log_bytes[5];
+/* A count as a log holds it, in 32 bits, is multiplied in the width of a size. */
+FACT(any_count, sizeof(size_t) < 8 || PALETTE_LOG_BYTES(UINT32_MAX) / 9 == UINT32_MAX);
+
+/* These can stand in an #if, and the version is one string that others can be
+ * put beside. */
+#if PALETTE_VERSION_MAJOR < 0 || PALETTE_VERSION_MINOR < 0 || PALETTE_VERSION_PATCH < 0 || \
+    PALETTE_END_BYTES != 2370 || PALETTE_MOST_LOG_BYTES != 27005 || \
+    PALETTE_MOST_ANSWER_BYTES != 54000
+#error "a number of the header"
+#endif
+FACT(version, sizeof "palette " PALETTE_VERSION >= sizeof "palette 0.0.0");
+
+extern const uint8_t snapshot[PALETTE_SNAPSHOT_BYTES(0)], log_bytes[PALETTE_LOG_BYTES(0)];
 extern uint8_t end_buffer[PALETTE_END_BYTES];
 size_t example(void);
 

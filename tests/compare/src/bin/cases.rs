@@ -1,0 +1,273 @@
+//! Plays the run blocks of documents and the stored cases of folders through
+//! the library, and their logs through the printing program.
+//!
+//! cases [--replay PROGRAM] FILE.md|FOLDER..
+//!
+//! tests/stored/README.md describes the language. Compared are the returned
+//! number, every byte of both buffers, the bytes around them, the inputs, and
+//! every byte that is printed. Each file or folder must show every refusal.
+//! Prints a line for each case and 'N passed, M failed'.
+
+#[path = "../blocks.rs"]
+mod blocks;
+#[allow(dead_code)]
+#[path = "../case.rs"]
+mod case;
+#[allow(dead_code)]
+#[path = "../damage.rs"]
+mod damage;
+#[allow(dead_code)]
+#[path = "../generate.rs"]
+mod generate;
+#[allow(dead_code)]
+#[path = "../library.rs"]
+mod library;
+#[allow(dead_code)]
+#[path = "../random.rs"]
+mod random;
+#[allow(dead_code)]
+#[path = "../replay.rs"]
+mod replay;
+#[allow(dead_code)]
+#[path = "../shrink.rs"]
+mod shrink;
+
+use blocks::{Block, ANSWER_BYTES};
+use case::{hexadecimal, in_words};
+use std::collections::BTreeSet;
+use std::fs;
+use std::io;
+use std::path::{Path, PathBuf};
+use std::process::ExitCode;
+
+/// The refusals that a run can show, in its answers or returned.
+const REFUSALS: &[u64] = &[
+    1, 2, 3, 4, 5, 10, 11, 12, 13, 14, 15, 20, 21, 22, 23, 24, 25, 26, 30, 31,
+];
+
+/// What the buffers hold before a run. Two runs, so that a byte is noticed
+/// that changes to, or stays, what the first pattern happens to be.
+const PATTERNS: [u8; 2] = [0xA5, 0x5A];
+
+/// A case by its name, or why it can't be played.
+type Named = (String, Result<Block, String>);
+
+struct Tally {
+    replay: Option<PathBuf>,
+    passed: usize,
+    failed: usize,
+}
+
+impl Tally {
+    fn say(&mut self, name: &str, fault: Option<String>) {
+        match fault {
+            None => {
+                self.passed += 1;
+                println!("ok {name}");
+            }
+            Some(fault) => {
+                self.failed += 1;
+                println!("FAILED {name}: {fault}");
+            }
+        }
+    }
+
+    /// The cases of one file or folder, and that they show every refusal.
+    fn source(&mut self, path: &Path) {
+        let name = path.display().to_string();
+        let cases = match cases(path) {
+            Err(fault) => return self.say(&name, Some(fault.to_string())),
+            Ok(cases) if cases.is_empty() => return self.say(&name, Some("no case in it".into())),
+            Ok(cases) => cases,
+        };
+        let mut shown = BTreeSet::new();
+        for (name, block) in cases {
+            let fault = match &block {
+                Err(fault) => Some(fault.clone()),
+                Ok(block) => {
+                    shown.extend(refusals(block));
+                    self.wrong(block)
+                }
+            };
+            self.say(&name, fault);
+        }
+        let missing: Vec<_> = REFUSALS.iter().filter(|&n| !shown.contains(n)).collect();
+        let fault = (!missing.is_empty()).then(|| format!("no case shows {missing:?}"));
+        self.say(&format!("{name}, every refusal"), fault);
+    }
+
+    /// What the library and the printing program get wrong, if anything.
+    fn wrong(&self, block: &Block) -> Option<String> {
+        let run = (PATTERNS.iter().zip(1..)).find_map(|(&pattern, i)| wrong_run(block, pattern, i));
+        let printed = match (&self.replay, &block.printed) {
+            (Some(program), Some(text)) => wrong_print(program, block, text),
+            _ => None,
+        };
+        let faults: Vec<_> = run.into_iter().chain(printed).collect();
+        (!faults.is_empty()).then(|| faults.join("; "))
+    }
+}
+
+fn cases(path: &Path) -> io::Result<Vec<Named>> {
+    if !path.is_dir() {
+        let blocks = blocks::in_document(&fs::read_to_string(path)?);
+        let name = |line| format!("{} line {line}", path.display());
+        return Ok(blocks
+            .into_iter()
+            .map(|(line, block)| (name(line), block))
+            .collect());
+    }
+    let mut files = Vec::new();
+    for entry in fs::read_dir(path)? {
+        files.push(entry?.path());
+    }
+    files.sort();
+    Ok(files.iter().filter_map(|file| stored_case(file)).collect())
+}
+
+/// Any other file than a case or the README is a fault: a case with a slip in
+/// its name would never be played.
+fn stored_case(file: &Path) -> Option<Named> {
+    let name = file.file_name()?.to_string_lossy().into_owned();
+    if name == "README.md" {
+        return None;
+    }
+    let Some(short) = name.strip_suffix(".case") else {
+        return Some((name, Err("neither a case nor README.md".into())));
+    };
+    let block = fs::read_to_string(file)
+        .map_err(|fault| fault.to_string())
+        .and_then(|text| blocks::stored(&text));
+    Some((short.into(), block))
+}
+
+/// The refusals that a block shows.
+fn refusals(block: &Block) -> impl Iterator<Item = u64> + '_ {
+    let answers = block.answers.chunks(ANSWER_BYTES);
+    [block.refusal]
+        .into_iter()
+        .chain(answers.map(|answer| u64::from(answer[0])))
+}
+
+/// The first thing that the library gets wrong, if anything.
+fn wrong_run(block: &Block, pattern: u8, layout: u64) -> Option<String> {
+    let outcome = library::run(
+        &block.snapshot,
+        &block.log,
+        &vec![pattern; block.answers_len],
+        &vec![pattern; block.end_len],
+        layout,
+        layout % 2 == 0,
+    );
+    if let Some(trespass) = outcome.trespass {
+        return Some(trespass.into());
+    }
+    if outcome.result != block.returned() {
+        return Some(format!(
+            "the library returned {}, the case says {}",
+            in_words(outcome.result),
+            in_words(block.returned())
+        ));
+    }
+    wrong_answer(block, &outcome.answers, pattern)
+        .or_else(|| wrong_end(block, &outcome.end, pattern))
+}
+
+/// The first byte that isn't what is right, or, past that, isn't the pattern.
+fn first_wrong(found: &[u8], right: &[u8], pattern: u8) -> Option<usize> {
+    (0..found.len()).find(|&i| found[i] != *right.get(i).unwrap_or(&pattern))
+}
+
+fn wrong_answer(block: &Block, found: &[u8], pattern: u8) -> Option<String> {
+    let index = first_wrong(found, &block.answers, pattern)?;
+    if index >= block.answers.len() {
+        return Some(format!(
+            "byte {index} of the answer buffer changed, past the answers"
+        ));
+    }
+    let event = index / ANSWER_BYTES;
+    let line = match block.event_lines.get(event) {
+        Some(line) => format!(" (line {line})"),
+        None => String::new(),
+    };
+    let answer = |all: &[u8]| hexadecimal(all.chunks(ANSWER_BYTES).nth(event).unwrap_or_default());
+    Some(format!(
+        "event {event}{line}, answer byte {}: the library gives {}, the case says {}",
+        index % ANSWER_BYTES,
+        answer(found),
+        answer(&block.answers)
+    ))
+}
+
+fn wrong_end(block: &Block, found: &[u8], pattern: u8) -> Option<String> {
+    let index = first_wrong(found, &block.end, pattern)?;
+    Some(match block.end.get(index) {
+        None => format!("byte {index} of the end buffer changed, past the end snapshot"),
+        Some(right) => format!(
+            "end snapshot, byte {index}: the library gives {:02x}, the case says {right:02x}",
+            found[index]
+        ),
+    })
+}
+
+/// The first thing that the printing program gets wrong, if anything.
+fn wrong_print(program: &Path, block: &Block, text: &str) -> Option<String> {
+    let output = match replay::printed_by(program, &block.log, usize::MAX) {
+        Err(fault) => return Some(fault),
+        Ok(output) if output == text.as_bytes() => return None,
+        Ok(output) => output,
+    };
+    Some(text_difference(&String::from_utf8_lossy(&output), text))
+}
+
+fn text_difference(found: &str, right: &str) -> String {
+    let (found, right): (Vec<_>, Vec<_>) =
+        (found.split('\n').collect(), right.split('\n').collect());
+    let same = found.iter().zip(&right).take_while(|(a, b)| a == b).count();
+    let line = |lines: &[&str]| {
+        lines
+            .get(same)
+            .map_or("nothing".into(), |line| line.to_string())
+    };
+    let (found, right) = (line(&found), line(&right));
+    let digit = found
+        .bytes()
+        .zip(right.bytes())
+        .take_while(|(a, b)| a == b)
+        .count();
+    let rest = |line: &str| line.chars().skip(digit).take(36).collect::<String>();
+    format!(
+        "printed line {}, from digit {digit} on: the program prints '{}', the case says '{}'",
+        same + 1,
+        rest(&found),
+        rest(&right)
+    )
+}
+
+fn main() -> ExitCode {
+    let mut arguments: Vec<String> = std::env::args().skip(1).collect();
+    let mut replay = None;
+    if arguments.len() > 1 && arguments[0] == "--replay" {
+        replay = Some(arguments.drain(..2).nth(1).unwrap_or_default().into());
+    }
+    if arguments.is_empty() || arguments.iter().any(|argument| argument.starts_with('-')) {
+        eprintln!("usage: cases [--replay PROGRAM] FILE.md|FOLDER..");
+        return ExitCode::from(2);
+    }
+    let mut tally = Tally {
+        replay,
+        passed: 0,
+        failed: 0,
+    };
+    if tally.replay.is_none() {
+        println!("no --replay: what is printed isn't looked at");
+    }
+    for argument in &arguments {
+        tally.source(Path::new(argument));
+    }
+    println!("{} passed, {} failed", tally.passed, tally.failed);
+    match tally.failed == 0 && tally.passed > 0 {
+        true => ExitCode::SUCCESS,
+        false => ExitCode::FAILURE,
+    }
+}

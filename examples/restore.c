@@ -99,9 +99,9 @@ static const char *refusal_in_words(unsigned refusal)
         return "no overlay colour or control register has this address";
     case PALETTE_REFUSED_DIRECTION:
         return "the address was set for the other direction";
-    case PALETTE_REFUSED_TICK_BITS:
+    case PALETTE_REFUSED_UNDEFINED_BITS:
         return "the tick sets overlay or level bits that have no meaning";
-    case PALETTE_REFUSED_VERTICAL:
+    case PALETTE_REFUSED_NOT_ON_CHIP:
         return "this chip has no such event";
     case PALETTE_REFUSED_LOG_SHORT:
         return "the log is shorter than its header";

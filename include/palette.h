@@ -123,9 +123,9 @@ enum palette_refusal {
      * read in direction write. */
     PALETTE_REFUSED_DIRECTION = 3,
     /* In an answer: a tick with OL bits 5 to 7 or undefined level bits set. */
-    PALETTE_REFUSED_TICK_BITS = 4,
+    PALETTE_REFUSED_UNDEFINED_BITS = 4,
     /* In an answer, HD153129: a vertical period. */
-    PALETTE_REFUSED_VERTICAL = 5,
+    PALETTE_REFUSED_NOT_ON_CHIP = 5,
 
     /* Of a run: the log has under PALETTE_LOG_HEADER_BYTES bytes. */
     PALETTE_REFUSED_LOG_SHORT = 10,

@@ -7,6 +7,7 @@
 # 'N passed, M failed'.
 # shellcheck shell=bash
 . "$(dirname "${BASH_SOURCE[0]}")/common.sh"
+need awk grep sed sh
 checking=
 [ "${1-}" != --check ] || checking=1
 seeded_bugs=0

@@ -18,7 +18,7 @@ fail() { # what
     failed=$((failed + 1))
 }
 
-# The counts as the last line. Nothing passed is a failure.
+# The counts as the last line. Nothing counted is a failure.
 verdict() {
     [ $((passed + failed)) -gt 0 ] || fail "nothing was checked"
     printf '%d passed, %d failed\n' "$passed" "$failed"

@@ -25,6 +25,7 @@ NR == FNR {
     line = $0
     take_parts("fields? `[^`]+`(" more "`[^`]+`)*" owners, "field")
     take_parts("clauses? " part "(" more part ")*" owners, "clause")
+    take_lists()
     take_structs()
     take_sequences()
     take_backquoted()
@@ -113,6 +114,19 @@ function take_parts(pattern, form,    phrase, before) {
         parts_of(phrase, form)
     }
     line = before line
+}
+
+# "`x/Y.z` (a, b)": two or more fields in brackets.
+function take_lists(    rest, phrase, at, parts, n, i) {
+    rest = line
+    while (match(rest, "`[a-z0-9_]+/[^` ]+` [(]" part "(, " part ")+[)]")) {
+        phrase = substr(rest, RSTART + 1, RLENGTH - 2)
+        rest = substr(rest, RSTART + RLENGTH)
+        at = index(phrase, "` (")
+        n = split(substr(phrase, at + 3), parts, ", ")
+        phrase = substr(phrase, 1, at - 1)
+        for (i = 1; i <= n; i++) check("field", parts[i] " of " phrase, has_field(phrase, parts[i]))
+    }
 }
 
 # "structs A and B in crates/..": the path stays.

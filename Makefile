@@ -4,12 +4,12 @@ CFLAGS ?= -O2
 WARNINGS = -std=c11 -Wall -Wextra -pedantic -Werror
 LIBPALETTE ?= target/staticlib/libpalette.a
 REPLAY ?= target/bin/replay
-CALLS ?= target/bin/calls
 VERSION ?= 0.1.0
 SECONDS ?= 600
 SEED ?= 0x7a19e261
 PREFIX ?= /usr/local
 DESTDIR ?=
+CALLS ?= target/bin/calls
 COMPARE = tests/target/release/compare
 CASES = tests/target/release/cases
 CRATES = crates.txt $(wildcard crates/*/src/* crates/*/specs/* crates/*/proofs/* crates/*/proofs/*/* crates/*/proofs/*/*/*)

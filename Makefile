@@ -1,4 +1,4 @@
-# make run: replay a sample log. make test: the whole gate. The other targets are in README.md.
+# make run: replay a sample log. make test: the whole gate. make help: all targets.
 CC ?= cc
 CFLAGS ?= -O2
 WARNINGS = -std=c11 -Wall -Wextra -pedantic -Werror
@@ -9,34 +9,49 @@ SECONDS ?= 600
 SEED ?= 0x7a19e261
 PREFIX ?= /usr/local
 DESTDIR ?=
-COMPARE = tests/compare/target/release/compare
+CALLS ?= target/bin/calls
+COMPARE = tests/target/release/compare
+CASES = tests/target/release/cases
 CRATES = crates.txt $(wildcard crates/*/src/* crates/*/specs/* crates/*/proofs/* crates/*/proofs/*/* crates/*/proofs/*/*/*)
-# What the scripts and the comparison's build find the library by.
-export LIBPALETTE REPLAY CC
+# What the scripts and the comparison's build find the library and the programs by.
+export LIBPALETTE REPLAY CALLS CC
+# It would move what cargo builds to another folder.
+unexport CARGO_BUILD_TARGET
 
-.PHONY: run test prove lib replay examples compare-build compare time fuzz test-c test-formats seeded bench install fmt clean
+.PHONY: run help test prove lib replay calls examples compare-build compare test-examples time fuzz test-c test-readme test-trace seeded bench install fmt clean
+# rt uses every core by itself, and two of them at once would share target/.
+.NOTPARALLEL:
 
 # The sample log, as the printing program prints it and as the restore tool shows it.
-run: $(REPLAY) examples
+run: $(REPLAY) examples ## replay a sample log
 	$(REPLAY) <target/examples/first.log
 	target/examples/restore - target/examples/first.log target/examples/first.end
 
-test:
+help: ## list the targets
+	@awk -F ':.*## ' '/^[a-z-]+:.*## / { printf "%-15s %s\n", $$1, $$2 }' Makefile
+
+test: ## the whole gate; scripts/test SUITE.. runs suites by themselves
 	@scripts/test
 
-prove:
+prove: ## prove the crates that have changed
 	rt check
 
 # The prover says hundreds of lines: they go to target/NAME.say, and are shown only if it refuses something.
 quietly = @mkdir -p target && echo "$(1), what the prover says in target/$(2).say" && { $(3) >target/$(2).say 2>&1 || { cat target/$(2).say; false; }; }
+# A program whose stamp is there isn't built again by rt, nor its time set.
+program = { { test -f $@ || rm -f target/stamp/$(@F); } && rt check $(@F) && test -f $@ && touch $@; }
 
-lib: $(LIBPALETTE)
-$(LIBPALETTE): $(CRATES)
+lib: $(LIBPALETTE) ## prove and build the static library for C
+target/staticlib/libpalette.a: $(CRATES)
 	$(call quietly,proving and building the library,lib,rt staticlib palette)
 
-replay: $(REPLAY)
-$(REPLAY): $(CRATES)
-	$(call quietly,proving and building the printing program,replay,rt check replay)
+replay: $(REPLAY) ## prove and build the printing program
+target/bin/replay: $(CRATES)
+	$(call quietly,proving and building the printing program,replay,$(program))
+
+calls: $(CALLS) ## prove and build the program that plays single calls
+target/bin/calls: $(CRATES)
+	$(call quietly,proving and building the program of single calls,calls,$(program))
 
 target/examples/%.log: examples/%.txt examples/assemble
 	@mkdir -p $(@D)
@@ -46,30 +61,35 @@ target/examples/restore: examples/restore.c include/palette.h $(LIBPALETTE)
 	@mkdir -p $(@D)
 	@$(CC) $(WARNINGS) $(CFLAGS) -Iinclude examples/restore.c $(LIBPALETTE) $(LDLIBS) -o $@
 
-examples: target/examples/first.log target/examples/second.log target/examples/restore
+examples: target/examples/first.log target/examples/second.log target/examples/restore ## the sample logs and the restore tool
 
-# The comparison with the second model. Its build sees whether the library has changed.
-compare-build: $(LIBPALETTE)
-	cd tests/compare && cargo build --release --offline --quiet
+# Its build sees whether the library has changed.
+compare-build: $(LIBPALETTE) ## build the comparison with the second model
+	cargo build --manifest-path tests/Cargo.toml --target-dir tests/target -p compare --release --offline --quiet
 
-compare: compare-build $(REPLAY)
-	$(COMPARE) --replay $(REPLAY)
+compare: compare-build $(REPLAY) $(CALLS) ## compare library and programs with the second model
+	$(COMPARE) --replay $(REPLAY) --calls $(CALLS)
 
-# How long the library takes beside the second model.
-time: compare-build
+test-examples: compare-build $(REPLAY) ## play the examples of docs/FORMATS.md and the stored cases
+	$(CASES) --replay $(REPLAY) docs/FORMATS.md tests/stored
+
+time: compare-build ## how long the library takes beside the second model
 	$(COMPARE) --time
 
-fuzz: compare-build $(REPLAY)
-	$(COMPARE) --seconds $(SECONDS) --seed $(SEED) --replay $(REPLAY)
+fuzz: compare-build $(REPLAY) $(CALLS) ## the comparison for SECONDS=n from SEED=s
+	$(COMPARE) --seconds $(SECONDS) --seed $(SEED) --replay $(REPLAY) --calls $(CALLS)
 
-test-c: $(LIBPALETTE)
+test-c: $(LIBPALETTE) $(REPLAY) ## the C header, the installed files and the restore tool
 	tests/c/run
 
-test-formats: $(LIBPALETTE)
-	tests/formats
+test-readme: $(LIBPALETTE) ## README's C program and the paths that the documents name
+	tests/readme
 
-# Mistakes seeded into copies of the model, of the plain program and of the crates' code: each must be caught.
-seeded: compare-build
+test-trace: ## the names in docs/TRACE.md
+	tests/trace
+
+# Each mistake must be caught.
+seeded: compare-build ## mistakes seeded into the model, the plain program and the code
 	tests/seeded-mistakes
 	tests/seeded-bugs
 	tests/seeded-code
@@ -78,11 +98,11 @@ target/bench/bench: bench/bench.c bench/plain.c bench/plain.h include/palette.h 
 	@mkdir -p $(@D)
 	$(CC) $(WARNINGS) -O3 -Iinclude -Ibench bench/bench.c bench/plain.c $(LIBPALETTE) $(LDLIBS) -o $@
 
-bench: target/bench/bench
+bench: target/bench/bench ## time the library beside a plain C program
 	target/bench/bench
 
-# Header, archive, program and pkg-config file, each replaced in one step.
-install: $(LIBPALETTE) $(REPLAY)
+# Each file is replaced in one step.
+install: $(LIBPALETTE) $(REPLAY) ## header, library, printing program and pkg-config file, to PREFIX=..
 	install -d $(DESTDIR)$(PREFIX)/include $(DESTDIR)$(PREFIX)/lib/pkgconfig $(DESTDIR)$(PREFIX)/bin
 	install -m 644 include/palette.h $(DESTDIR)$(PREFIX)/include/palette.h
 	install -m 644 $(LIBPALETTE) $(DESTDIR)$(PREFIX)/lib/libpalette.a
@@ -90,8 +110,8 @@ install: $(LIBPALETTE) $(REPLAY)
 	sed -e 's|@PREFIX@|$(PREFIX)|' -e 's|@VERSION@|$(VERSION)|' palette.pc.in >target/palette.pc
 	install -m 644 target/palette.pc $(DESTDIR)$(PREFIX)/lib/pkgconfig/palette.pc
 
-fmt:
+fmt: ## format the crates
 	rt fmt
 
-clean:
-	rm -rf target tests/target tests/compare/target tests/sequences/target
+clean: ## remove all that was built
+	rm -rf target tests/target

@@ -15,7 +15,7 @@ BEGIN {
 NR == FNR {
     known[$1, $2] = 1
     if (NF == 3) known[$1, $2, $3] = 1
-    if ($1 == "sequence") sequences[++sequence_count] = $2
+    if ($1 == "sequence" || $1 == "class") titles[$1, ++title_count[$1]] = $2
     if ($1 == "edit") edits[++edit_count] = $2
     if ($1 == "type") gives[$2] = $3
     next
@@ -27,7 +27,8 @@ NR == FNR {
     take_parts("clauses? " part "(" more part ")*" owners, "clause")
     take_lists()
     take_structs()
-    take_sequences()
+    take_titles("S", "sequence")
+    take_titles("C", "class")
     take_backquoted()
     take_paths()
 }
@@ -143,18 +144,21 @@ function take_structs(    phrase, at, file, parts, n, i) {
     }
 }
 
-# S "text": some sequence's name starts so, in whole words.
-function take_sequences(    name) {
-    while (match(line, /S "[^"]*"/)) {
+# S "text", C "text": the name of some sequence, of some class starts so, in whole
+# words.
+function take_titles(letter, form,    name) {
+    while (match(line, letter " \"[^\"]*\"")) {
         name = substr(line, RSTART + 3, RLENGTH - 4)
         line = substr(line, 1, RSTART - 1) substr(line, RSTART + RLENGTH)
-        check("sequence", "\"" name "\"", name != "" && starts_some(name))
+        check(form, "\"" name "\"", name != "" && starts_some(form, name))
     }
 }
 
-function starts_some(name,    i) {
-    for (i = 1; i <= sequence_count; i++)
-        if (index(sequences[i], name) == 1 && substr(sequences[i], length(name) + 1, 1) !~ /[A-Za-z0-9]/) return 1
+function starts_some(form, name,    i, title) {
+    for (i = 1; i <= title_count[form]; i++) {
+        title = titles[form, i]
+        if (index(title, name) == 1 && substr(title, length(name) + 1, 1) !~ /[A-Za-z0-9]/) return 1
+    }
     return 0
 }
 

@@ -1,9 +1,8 @@
 //! Which accesses paint, worked out by hand from document 01.
 
-use crate::common::{
-    is_access, log_bytes, p1, p2, read, save_event, snapshot_bytes, tick, vertical, write, Bench,
-    Random,
-};
+use crate::common::Bench;
+use kit::{is_access, log_bytes, p1, p2, snapshot_bytes, Random, CHIPS};
+use kit::{read, save as save_event, tick, vertical, write};
 use model::{painting_accesses, save, Event, Refusal};
 
 /// The painting accesses of this log are exactly these indices.
@@ -154,7 +153,7 @@ fn accesses_that_do_not_paint_change_nothing_that_is_shown() {
     let mut random = Random::seeded(0x5EED_0003);
     let (mut still, mut painted) = (0, 0);
     for round in 0..150 {
-        let chip = 1 + (round % 2) as u8;
+        let chip = CHIPS[round % CHIPS.len()];
         let mut state = random.state(chip);
         for _ in 0..40 {
             let event = random.access();
@@ -181,9 +180,9 @@ fn accesses_that_do_not_paint_change_nothing_that_is_shown() {
 /// Colours, masks and command: the places that a tick looks at and an access
 /// can change.
 fn shown_places(places: &[u8], chip: u8) -> Vec<u8> {
-    if chip == 1 {
-        [&places[..780], &places[784..787]].concat()
-    } else {
-        [&places[..768], &places[773..774]].concat()
+    match chip {
+        1 => [&places[..p1::ADDRESS], &places[p1::READ_MASK..p1::TEST]].concat(),
+        2 => [&places[..p2::ADDRESS], &places[p2::MASK..p2::COUNT]].concat(),
+        _ => panic!("what a tick of chip {chip} looks at isn't listed"),
     }
 }

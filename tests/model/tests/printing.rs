@@ -1,7 +1,9 @@
 //! The printing program's output, from the library and from `model-replay`.
 
-use crate::common::{log_bytes, read, save_event, tick, vertical, write, Random};
+use kit::{highest_kind, log_bytes, Random, CHIPS, NOT_BUILT};
+use kit::{read, save, tick, vertical, write};
 use model::printed;
+use std::collections::BTreeMap;
 use std::io::Write;
 use std::process::{Command, Stdio};
 
@@ -66,8 +68,8 @@ fn an_empty_log_prints_a_fresh_chip() {
 #[test]
 fn a_refused_log_prints_its_number_alone() {
     let mut bad_kind = log_bytes(1, &[vertical()]);
-    bad_kind[5] = 5;
-    let mut bad_operand = log_bytes(2, &[save_event()]);
+    bad_kind[5] = highest_kind(1) + 1;
+    let mut bad_operand = log_bytes(2, &[save()]);
     bad_operand[6] = 1;
     let mut long = log_bytes(1, &[vertical()]);
     long.push(0);
@@ -75,7 +77,7 @@ fn a_refused_log_prints_its_number_alone() {
         (vec![], "refused 10\n"),
         (vec![1, 0, 0, 0], "refused 10\n"),
         (vec![0, 0, 0, 0, 0], "refused 11\n"),
-        (vec![3, 0, 0, 0, 0], "refused 11\n"),
+        (vec![NOT_BUILT, 0, 0, 0, 0], "refused 11\n"),
         (vec![2, 0xB9, 0x0B, 0, 0], "refused 12\n"),
         (vec![2, 1, 0, 0, 0], "refused 13\n"),
         (long, "refused 13\n"),
@@ -106,9 +108,8 @@ fn refusals_in_answers_are_printed_as_answers() {
 fn the_program_prints_what_the_library_prints() {
     let mut random = Random::seeded(0x5EED_0002);
     for round in 0..20 {
-        let chip = 1 + (round % 2) as u8;
-        let events: Vec<_> = (0..150).map(|_| random.event(chip)).collect();
-        let log = log_bytes(chip, &events);
+        let chip = CHIPS[round % CHIPS.len()];
+        let log = log_bytes(chip, &random.events(chip, 150));
         let text = printed(&log);
         assert_eq!(text.lines().count(), 151);
         assert_eq!(printed_by_program(&log), text);
@@ -118,14 +119,13 @@ fn the_program_prints_what_the_library_prints() {
 #[test]
 fn any_input_prints_a_refusal_or_all_its_answers() {
     let mut random = Random::seeded(0x5EED_0004);
-    let mut refused = [0; 16];
+    let mut refused = BTreeMap::new();
     let mut accepted = 0;
     for round in 0..4000 {
         // Good logs with one byte changed, cut or added, now and then.
-        let chip = 1 + (round % 2) as u8;
+        let chip = CHIPS[round % CHIPS.len()];
         let count = random.below(6);
-        let events: Vec<_> = (0..count).map(|_| random.event(chip)).collect();
-        let mut input = log_bytes(chip, &events);
+        let mut input = log_bytes(chip, &random.events(chip, count));
         match random.below(4) {
             0 => input.truncate(random.below(input.len())),
             1 => input.push(random.byte()),
@@ -137,16 +137,17 @@ fn any_input_prints_a_refusal_or_all_its_answers() {
         }
         let text = printed(&input);
         match text.strip_prefix("refused ") {
-            Some(number) => refused[number.trim_end().parse::<usize>().unwrap()] += 1,
+            Some(number) => {
+                let number: u32 = number.trim_end().parse().unwrap();
+                *refused.entry(number).or_insert(0) += 1;
+            }
             None => {
                 assert_eq!(text.lines().count(), count + 1);
                 accepted += 1;
             }
         }
     }
-    assert_eq!(refused[..10], [0; 10]);
-    for times in &refused[10..] {
-        assert!(*times > 20);
-    }
+    assert!(refused.keys().eq(&[10, 11, 12, 13, 14, 15]));
+    assert!(refused.values().all(|&times| times > 20));
     assert!(accepted > 1000);
 }

@@ -1,6 +1,8 @@
 //! Save then restore, restore then save, and the save event.
 
-use crate::common::{log_bytes, place_count, play, save_event, snapshot_bytes, vertical, Random};
+use crate::common::play;
+use kit::{log_bytes, place_count, save as save_event, snapshot_bytes, vertical};
+use kit::{Random, CHIPS};
 use model::{event, kind, restore, save, save_into, State};
 
 #[test]
@@ -8,7 +10,7 @@ fn save_then_restore_gives_the_state_back() {
     let mut random = Random::seeded(0x5EED_0010);
     let (mut empty, mut full) = (0, 0);
     for round in 0..400 {
-        let chip = 1 + (round % 2) as u8;
+        let chip = CHIPS[round % CHIPS.len()];
         let state = random.state(chip);
         let bytes = save(&state).unwrap();
         let restored = restore(&bytes);
@@ -32,7 +34,7 @@ fn save_then_restore_gives_the_state_back() {
 
 #[test]
 fn each_place_alone_comes_back() {
-    for chip in [1u8, 2] {
+    for chip in CHIPS {
         for place in 0..place_count(chip) {
             let bytes = snapshot_bytes(chip, &[(place as u16, 1)]);
             let restored = restore(&bytes);
@@ -50,7 +52,7 @@ fn restore_then_save_gives_accepted_bytes_back() {
     let mut random = Random::seeded(0x5EED_0011);
     let (mut accepted, mut refused) = (0, 0);
     for round in 0..3000 {
-        let chip = 1 + (round % 2) as u8;
+        let chip = CHIPS[round % CHIPS.len()];
         let mut bytes = save(&random.state(chip)).unwrap();
         // Most are damaged by one byte; many of those are still snapshots.
         if !random.one_in(4) {
@@ -74,7 +76,7 @@ fn restore_then_save_gives_accepted_bytes_back() {
 fn a_save_event_leaves_every_state_as_it_was() {
     let mut random = Random::seeded(0x5EED_0012);
     for round in 0..400 {
-        let state = random.state(1 + (round % 2) as u8);
+        let state = random.state(CHIPS[round % CHIPS.len()]);
         let (answer, next) = event(&state, kind::SAVE, &[0; 8]);
         assert_eq!(answer, [0; 18]);
         assert_eq!(next, state);
@@ -85,7 +87,7 @@ fn a_save_event_leaves_every_state_as_it_was() {
 fn saves_between_events_change_nothing_else() {
     let mut random = Random::seeded(0x5EED_0013);
     for round in 0..60 {
-        let chip = 1 + (round % 2) as u8;
+        let chip = CHIPS[round % CHIPS.len()];
         let start = save(&random.state(chip)).unwrap();
         let mut plain = Vec::new();
         let mut saved = Vec::new();
@@ -110,8 +112,9 @@ fn saves_between_events_change_nothing_else() {
 fn logs_come_back_as_they_were_written() {
     let mut random = Random::seeded(0x5EED_0014);
     for round in 0..50 {
-        let chip = 1 + (round % 2) as u8;
-        let mut events: Vec<_> = (0..random.below(80)).map(|_| random.event(chip)).collect();
+        let chip = CHIPS[round % CHIPS.len()];
+        let count = random.below(80);
+        let mut events = random.events(chip, count);
         events.push(vertical());
         let bytes = log_bytes(chip, &events);
         assert_eq!(bytes.len(), 5 + 9 * events.len());

@@ -1,7 +1,8 @@
 //! Refusals of a restore (20 to 25), of a save (25) and of saving into a lent
 //! buffer (25, then 31), as calls of their own.
 
-use crate::common::{largest, p1, p2, place_count, snapshot_bytes, Bench};
+use crate::common::Bench;
+use kit::{largest, not_built, p1, p2, place_count, snapshot_bytes, CHIPS};
 use model::{restore, save, save_into, Refusal, State};
 
 /// A refused restore gives a fresh chip 1 beside its number.
@@ -34,7 +35,7 @@ fn fresh_chips_are_three_bytes() {
 #[test]
 fn a_state_cannot_name_a_chip_that_is_not_built() {
     // So refusal 21 never comes from a state.
-    for chip in (0..=255).filter(|chip| ![1, 2].contains(chip)) {
+    for chip in not_built() {
         assert_eq!(State::fresh(chip), None);
         assert_eq!(State::from_places(chip, &[0; p1::COUNT]), None);
     }
@@ -55,7 +56,7 @@ fn refusal_20_under_3_bytes() {
 
 #[test]
 fn refusal_21_chip() {
-    for chip in (0..=255).filter(|chip| ![1, 2].contains(chip)) {
+    for chip in not_built() {
         assert_refused(&[chip, 0, 0], 21);
         // 21 comes before 22 and 23.
         assert_refused(&[chip, 0xFF, 0xFF], 21);
@@ -64,7 +65,7 @@ fn refusal_21_chip() {
 
 #[test]
 fn refusal_22_count_over_the_places() {
-    for chip in [1, 2] {
+    for chip in CHIPS {
         let most = place_count(chip);
         assert_accepted(&first_places(chip, most));
         // One place too many: the right length for it doesn't help (24 and 23
@@ -98,7 +99,7 @@ fn refusal_23_length() {
 
 #[test]
 fn refusal_24_places() {
-    for chip in [1u8, 2] {
+    for chip in CHIPS {
         let last = place_count(chip) as u16 - 1;
         assert_accepted(&snapshot_bytes(chip, &[(0, 1), (last, 1)]));
         assert_refused(&snapshot_bytes(chip, &[(last + 1, 1)]), 24);
@@ -117,7 +118,7 @@ fn refusal_24_places() {
 
 #[test]
 fn refusal_25_values() {
-    for chip in [1u8, 2] {
+    for chip in CHIPS {
         for place in 0..place_count(chip) {
             let most = largest(chip, place);
             let number = place as u16;
@@ -196,7 +197,7 @@ fn save_refuses_25() {
 
 #[test]
 fn save_into_a_lent_buffer_one_short_exact_and_longer() {
-    for chip in [1, 2] {
+    for chip in CHIPS {
         let bench = Bench::with_places(chip, &[(2, 0x0A), (300, 0x3F)]);
         let bytes = [chip, 2, 0, 0x02, 0x00, 0x2C, 0x01, 0x0A, 0x3F];
         for size in [2370, 2371, 5000] {

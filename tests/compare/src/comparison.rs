@@ -1,97 +1,34 @@
-//! Compares the compiled library with the second model on seeded random cases,
-//! checks demand 3 and the data sheets' examples on the library itself, and
-//! compares the printing program's output with the model's.
-//!
-//! compare [--seconds N] [--seed S] [--replay PATH] [--tries N] [--trace]
-//! compare --time [--seed S]
-//! compare --write DIR [--seed S]
+//! Plays the classes and keeps count: what is tried once, and what is tried
+//! anew in each round.
 
-mod case;
-mod classes;
-mod damage;
-mod generate;
-mod library;
-mod random;
-mod replay;
-mod report;
-mod sheets;
-mod shrink;
-mod shuffle;
-mod time;
+use crate::case::{claimed_count, described, Case};
+use crate::classes::{Class, Sweep, RANDOM, SWEEPS};
+use crate::library::{lacks, Call, Outcome};
+use crate::replay::{self, Input, INPUTS};
+use crate::report::{Report, RUNS};
+use crate::sheets::{Sheet, SHEETS};
+use crate::shrink;
+use crate::shuffle::{Shuffle, SHUFFLES};
+use kit::Random;
+use model::ANSWER_BYTES;
+use std::path::Path;
 
-use case::{claimed_count, described, Case};
-use classes::{Class, Sweep, RANDOM, SWEEPS};
-use random::Random;
-use replay::{Input, INPUTS};
-use report::Report;
-use sheets::{Sheet, SHEETS};
-use shuffle::{Shuffle, SHUFFLES};
-use std::path::{Path, PathBuf};
-use std::process::ExitCode;
-use std::time::{Duration, Instant};
-use std::{fs, io};
-
-/// Rounds of the random classes when no time is given.
-const ROUNDS: u64 = 30;
-const DEFAULT_SEED: u64 = 0x7A19_E261;
-/// Tries that may be spent on making failing cases small, in all and on one.
-const DEFAULT_TRIES: usize = 12_000;
+/// Tries that may be spent on making one failing case small.
 const TRIES_FOR_ONE: usize = 4_000;
-const USAGE: &str =
-    "compare [--seconds N] [--seed S] [--replay PATH] [--tries N] [--trace] | compare --time [--seed S] | compare --write DIR [--seed S]";
 
 /// A pair whose ticks differ, so the painting condition is seen to matter.
 const CONDITION_MATTERS: &str = "demand 3: painting not kept, a tick differs";
 const CONDITION_HELD: &str = "demand 3: painting kept, ticks compared";
 
-struct Options {
-    seconds: Option<u64>,
-    seed: u64,
-    replay: Option<PathBuf>,
-    tries: usize,
-    trace: bool,
-    time: bool,
-    write: Option<PathBuf>,
-}
-
-fn number(text: &str) -> Option<u64> {
-    match text.strip_prefix("0x") {
-        Some(digits) => u64::from_str_radix(digits, 16).ok(),
-        None => text.parse().ok(),
-    }
-}
-
-fn options(mut arguments: impl Iterator<Item = String>) -> Option<Options> {
-    let mut options = Options {
-        seconds: None,
-        seed: DEFAULT_SEED,
-        replay: None,
-        tries: DEFAULT_TRIES,
-        trace: false,
-        time: false,
-        write: None,
-    };
-    while let Some(argument) = arguments.next() {
-        match argument.as_str() {
-            "--seconds" => options.seconds = Some(number(&arguments.next()?)?),
-            "--seed" => options.seed = number(&arguments.next()?)?,
-            "--replay" => options.replay = Some(arguments.next()?.into()),
-            "--tries" => options.tries = number(&arguments.next()?)? as usize,
-            "--trace" => options.trace = true,
-            "--time" => options.time = true,
-            "--write" => options.write = Some(arguments.next()?.into()),
-            _ => return None,
-        }
-    }
-    Some(options)
-}
-
-struct Comparison {
-    report: Report,
-    seed: u64,
-    trace: bool,
+pub struct Comparison {
+    pub report: Report,
+    pub seed: u64,
+    /// Names each class and round on standard error.
+    pub trace: bool,
     /// What is left of the tries for making failing cases small.
-    tries: usize,
+    pub tries: usize,
+    /// Classes of a call that the library lacks are left out and don't fail.
+    pub may_lack: bool,
 }
 
 impl Comparison {
@@ -108,6 +45,21 @@ impl Comparison {
         Random::seeded(seed)
     }
 
+    /// Whether a class can be tried; if the library lacks its call, the class
+    /// is left out or fails.
+    fn begins(&mut self, name: &'static str, call: Call) -> bool {
+        self.report.expect(name);
+        if call.is_there() {
+            return true;
+        }
+        if self.may_lack {
+            self.report.left_out(name);
+        } else {
+            self.report.impossible(name, &lacks(call));
+        }
+        false
+    }
+
     /// Makes a case small with what one failure may spend of the tries.
     fn shrunk(&mut self, case: &Case, fails: &mut dyn FnMut(&Case) -> bool) -> Case {
         let spent = self.tries.min(TRIES_FOR_ONE);
@@ -122,10 +74,22 @@ impl Comparison {
         match case.agreed() {
             Ok(outcome) => {
                 self.report.checked(name);
-                self.report
-                    .count_refusals(&outcome, claimed_count(&case.log));
+                self.count_refusals(&outcome, claimed_count(&case.log));
             }
             Err(_) => self.differs(name, case),
+        }
+    }
+
+    /// Counts the refusals that an agreed run shows.
+    fn count_refusals(&mut self, outcome: &Outcome, events: usize) {
+        let refusal = outcome.result >> 16;
+        self.report.count(&RUNS, (refusal, ""));
+        if refusal == 0 {
+            for answer in outcome.answers().chunks(ANSWER_BYTES).take(events) {
+                if answer[0] != 0 {
+                    self.report.count(&RUNS, (answer[0].into(), ""));
+                }
+            }
         }
     }
 
@@ -137,6 +101,9 @@ impl Comparison {
     }
 
     fn random_class(&mut self, class: &Class, round: u64) {
+        if !self.begins(class.name, Call::Run) {
+            return;
+        }
         let mut random = self.random(class.name, round);
         for _ in 0..class.cases {
             if self.report.has_failed(class.name) {
@@ -147,6 +114,9 @@ impl Comparison {
     }
 
     fn sweep(&mut self, sweep: &Sweep) {
+        if !self.begins(sweep.name, Call::Run) {
+            return;
+        }
         let mut random = self.random(sweep.name, 0);
         for case in (sweep.cases)(&mut random) {
             if self.report.has_failed(sweep.name) {
@@ -158,6 +128,9 @@ impl Comparison {
 
     /// Each example by the papers, and against the model.
     fn sheet(&mut self, sheet: &Sheet) {
+        if !self.begins(sheet.name, Call::Run) {
+            return;
+        }
         for example in (sheet.examples)() {
             if self.report.has_failed(sheet.name) {
                 return;
@@ -177,6 +150,9 @@ impl Comparison {
     }
 
     fn shuffles(&mut self, shuffle: &Shuffle, round: u64) {
+        if !self.begins(shuffle.name, Call::Run) {
+            return;
+        }
         let mut random = self.random(shuffle.name, round);
         for _ in 0..shuffle.pairs {
             if self.report.has_failed(shuffle.name) {
@@ -204,6 +180,7 @@ impl Comparison {
     }
 
     fn replays(&mut self, program: &Path, input: &Input) {
+        self.report.expect(input.name);
         let mut random = self.random(input.name, 0);
         for number in 0..input.inputs {
             let (bytes, piece) = (input.make)(&mut random, number);
@@ -220,95 +197,31 @@ impl Comparison {
     }
 
     /// Everything that is tried once.
-    fn once(&mut self, replay: Option<&Path>) {
+    pub fn once(&mut self, replay: Option<&Path>) {
+        if Call::Run.is_there() || !self.may_lack {
+            self.report.expect_outcomes(&RUNS);
+        }
         for sheet in SHEETS {
-            self.report.expect(sheet.name);
             self.sheet(sheet);
         }
         for sweep in SWEEPS {
-            self.report.expect(sweep.name);
             self.sweep(sweep);
         }
         for input in INPUTS {
             if let Some(program) = replay {
-                self.report.expect(input.name);
                 self.replays(program, input);
             }
         }
     }
 
-    fn round(&mut self, round: u64) {
+    pub fn round(&mut self, round: u64) {
         for class in RANDOM {
-            self.report.expect(class.name);
             self.random_class(class, round);
         }
         for shuffle in SHUFFLES {
-            self.report.expect(shuffle.name);
             self.shuffles(shuffle, round);
         }
-        self.report.expect(CONDITION_HELD);
-        self.report.expect(CONDITION_MATTERS);
-    }
-}
-
-fn compared(options: &Options) -> bool {
-    let started = Instant::now();
-    let mut comparison = Comparison {
-        report: Report::default(),
-        seed: options.seed,
-        trace: options.trace,
-        tries: options.tries,
-    };
-    comparison.once(options.replay.as_deref());
-    let mut rounds = 0;
-    loop {
-        comparison.round(rounds);
-        rounds += 1;
-        let enough = match options.seconds {
-            Some(seconds) => started.elapsed() >= Duration::from_secs(seconds),
-            None => rounds >= ROUNDS,
-        };
-        if enough {
-            break;
-        }
-    }
-    println!("seed {:#x}, {rounds} rounds", options.seed);
-    comparison.report.verdict()
-}
-
-/// Writes the sample logs, and what the model prints for each, as NAME.log and
-/// NAME.txt.
-fn write_samples(seed: u64, directory: &Path) -> io::Result<()> {
-    fs::create_dir_all(directory)?;
-    for (name, log) in replay::samples(&mut Random::seeded(seed)) {
-        fs::write(directory.join(format!("{name}.log")), &log)?;
-        fs::write(directory.join(format!("{name}.txt")), model::printed(&log))?;
-    }
-    Ok(())
-}
-
-fn main() -> ExitCode {
-    match options(std::env::args().skip(1)) {
-        None => {
-            eprintln!("usage: {USAGE}");
-            ExitCode::from(2)
-        }
-        Some(Options {
-            write: Some(directory),
-            seed,
-            ..
-        }) => match write_samples(seed, &directory) {
-            Ok(()) => ExitCode::SUCCESS,
-            Err(fault) => {
-                eprintln!("{}: {fault}", directory.display());
-                ExitCode::FAILURE
-            }
-        },
-        Some(options) if options.time => {
-            time::report(options.seed);
-            ExitCode::SUCCESS
-        }
-        Some(options) if compared(&options) => ExitCode::SUCCESS,
-        Some(_) => ExitCode::FAILURE,
+        self.begins(CONDITION_HELD, Call::Run);
+        self.begins(CONDITION_MATTERS, Call::Run);
     }
 }

@@ -59,6 +59,11 @@ pub fn not_built() -> impl Iterator<Item = u8> {
     (0..=255).filter(|chip| !CHIPS.contains(chip))
 }
 
+/// The built chips in turn, one for each round of a test.
+pub fn chip_of_round(round: usize) -> u8 {
+    CHIPS[round % CHIPS.len()]
+}
+
 /// The built chips but this one.
 pub fn other_chips(chip: u8) -> Vec<u8> {
     CHIPS.into_iter().filter(|&other| other != chip).collect()

@@ -15,8 +15,9 @@ mod random;
 mod shuffle;
 
 pub use bytes::{hexadecimal, log_bytes, nonzero, snapshot_bytes};
-pub use chips::{address_place, highest_kind, largest, not_built, other_chips, place_count};
+pub use chips::{address_place, chip_of_round, highest_kind, largest, not_built};
 pub use chips::{c, p1, p2, rs, undefined_tick_bits, used_bytes, CHIPS, NOT_BUILT};
+pub use chips::{other_chips, place_count};
 pub use events::{is_access, is_display, is_save, is_tick, only, Sort};
 pub use events::{read, save, tick, vertical, write};
 pub use random::Random;

@@ -2,11 +2,11 @@
 //! HD153129 (chip 2), with their snapshots, their logs, the run of a log, the
 //! painting accesses and the printing program's output.
 //!
-//! Written from document 01 (the scope paper, `01-scope.md`) and the data
+//! It rests on document 01 (the scope paper, `01-scope.md`) and on the data
 //! sheets of the TLC34058 (source document 000) and the HD153129 (source
-//! document 001), by a hand that had not seen the implementation. Nothing in
-//! here was shaped after other code; where a paper left two readings, the one
-//! taken is listed in `docs/MODEL-READINGS.md`.
+//! document 001) alone, independently of the code that it is compared with.
+//! Where a paper leaves two readings, the one taken is listed in
+//! `docs/MODEL-READINGS.md`.
 //!
 //! The names are the data sheets': ADDR0-7 and ADDRa,b, RREG and GREG, read
 //! mask, blink mask, command register CR0-CR7, overlay registers, RS0 and RS1,
@@ -14,7 +14,8 @@
 //!
 //! What a comparison needs:
 //!
-//! - [`State::fresh`], [`State::from_places`], [`State::places`]
+//! - [`State::fresh`], [`State::from_places`], [`State::places`]; a state can
+//!   name a chip that isn't built
 //! - [`restore`], [`save`], [`save_into`]: snapshots and their refusals
 //! - [`event`]: one event called by itself on a state
 //! - [`run`]: a whole log on byte strings
@@ -24,6 +25,7 @@
 #![forbid(unsafe_code)]
 #![warn(missing_docs)]
 
+mod built;
 mod chip1;
 mod chip2;
 mod event;
@@ -35,6 +37,7 @@ mod run;
 mod snapshot;
 mod state;
 
+pub use built::NotBuilt;
 pub use chip1::Chip1;
 pub use chip2::Chip2;
 pub use event::{event, kind, Answer, Operand, ANSWER_BYTES};

@@ -33,5 +33,6 @@ fn would_paint(state: &State, access: &Event) -> bool {
         && match state {
             State::Chip1(chip) => chip.write_paints(access.operand[0]),
             State::Chip2(chip) => chip.write_paints(access.operand[0]),
+            State::NotBuilt(_) => false,
         }
 }

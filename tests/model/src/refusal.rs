@@ -17,7 +17,7 @@ pub enum Refusal {
     Vertical = 5,
     /// Log under 5 bytes.
     LogShort = 10,
-    /// Log's chip not 1 or 2.
+    /// Log's chip not built.
     LogChip = 11,
     /// Log's count over 3,000.
     LogCount = 12,
@@ -29,7 +29,7 @@ pub enum Refusal {
     UnusedByte = 15,
     /// Snapshot under 3 bytes.
     SnapshotShort = 20,
-    /// Snapshot's chip not 1 or 2.
+    /// Chip of a snapshot, or of a state handed in, not built.
     SnapshotChip = 21,
     /// Snapshot's count over the chip's places.
     SnapshotCount = 22,
@@ -37,7 +37,7 @@ pub enum Refusal {
     SnapshotLength = 23,
     /// Place outside the chip or not above the one before.
     Place = 24,
-    /// Value 0 (in a snapshot) or above its place's largest.
+    /// Value 0 (in a snapshot) or above its place's largest (in a state too).
     Value = 25,
     /// Snapshot and log for two chips.
     TwoChips = 26,

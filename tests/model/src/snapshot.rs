@@ -1,7 +1,8 @@
 //! Snapshots: save, save into a lent buffer, restore.
 
+use crate::built::{named, Built};
 use crate::refusal::Refusal;
-use crate::state::{largest, State};
+use crate::state::State;
 
 /// The longest snapshot (chip 1 with no place 0): 3 + 3 x 789. Every buffer
 /// for a snapshot must have this size, whatever it will hold (31).
@@ -25,9 +26,9 @@ pub struct Saved {
     pub length: usize,
 }
 
-/// The snapshot of a state, or 25.
+/// The snapshot of a state; or 21, then 25.
 pub fn save(state: &State) -> Result<Vec<u8>, Refusal> {
-    state.check_values()?;
+    state.check()?;
     Ok(snapshot_bytes(state.chip(), &state.places()))
 }
 
@@ -48,8 +49,8 @@ fn snapshot_bytes(chip: u8, places: &[u8]) -> Vec<u8> {
     bytes
 }
 
-/// Writes the snapshot at the buffer's start. Looks for 25, then 31; a refused
-/// call changes no byte, and bytes past the snapshot never change.
+/// Writes the snapshot at the buffer's start. Looks for 21, 25, then 31; a
+/// refused call changes no byte, and bytes past the snapshot never change.
 pub fn save_into(state: &State, buffer: &mut [u8]) -> Saved {
     match try_save_into(state, buffer) {
         Ok(length) => Saved {
@@ -92,35 +93,30 @@ pub(crate) fn try_restore(bytes: &[u8]) -> Result<State, Refusal> {
     let &[chip, count_low, count_high, ref rest @ ..] = bytes else {
         return Err(Refusal::SnapshotShort);
     };
-    let place_count = State::place_count(chip).ok_or(Refusal::SnapshotChip)?;
+    let built = named(chip).map_err(|_| Refusal::SnapshotChip)?;
     let count = usize::from(u16::from_le_bytes([count_low, count_high]));
-    if count > place_count {
+    if count > built.place_count() {
         return Err(Refusal::SnapshotCount);
     }
     if rest.len() != 3 * count {
         return Err(Refusal::SnapshotLength);
     }
     let (numbers, values) = rest.split_at(2 * count);
-    let places = restored_places(chip, place_count, numbers, values)?;
+    let places = restored_places(built, numbers, values)?;
     State::from_places(chip, &places).ok_or(Refusal::SnapshotChip)
 }
 
 /// 24 and 25 are looked for together: index by index, 24 first at each.
-fn restored_places(
-    chip: u8,
-    place_count: usize,
-    numbers: &[u8],
-    values: &[u8],
-) -> Result<Vec<u8>, Refusal> {
-    let mut places = vec![0; place_count];
+fn restored_places(chip: Built, numbers: &[u8], values: &[u8]) -> Result<Vec<u8>, Refusal> {
+    let mut places = vec![0; chip.place_count()];
     // The first place number that the next one may have.
     let mut lowest = 0;
     for (number, &value) in numbers.chunks_exact(2).zip(values) {
         let place = usize::from(u16::from_le_bytes([number[0], number[1]]));
-        if place < lowest || place >= place_count {
+        if place < lowest || place >= chip.place_count() {
             return Err(Refusal::Place);
         }
-        if value == 0 || value > largest(chip, place) {
+        if value == 0 || value > chip.largest(place) {
             return Err(Refusal::Value);
         }
         places[place] = value;

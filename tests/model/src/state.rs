@@ -1,27 +1,29 @@
-//! The state of either chip, and its list of places.
+//! The state of any chip, and its list of places.
 
-use crate::chip1::{self, Chip1};
-use crate::chip2::{self, Chip2};
+use crate::built::{named, Built, NotBuilt};
+use crate::chip1::Chip1;
+use crate::chip2::Chip2;
 use crate::refusal::Refusal;
 
-/// A chip's state. It cannot name a chip that isn't built, so refusal 21 never
-/// comes from a state. Its values are plain bytes, so a value above its
-/// place's largest is possible, and calls on a state look for it (25).
+/// A chip's state. It can name a chip that isn't built, and calls on a state
+/// look for that first (21). Its values are plain bytes, so a value above its
+/// place's largest is possible, and they look for it next (25).
 #[derive(Clone, Debug, PartialEq, Eq)]
 pub enum State {
     /// A TLC34058.
     Chip1(Chip1),
     /// An HD153129.
     Chip2(Chip2),
+    /// A chip that isn't built: its chip byte and no places.
+    NotBuilt(NotBuilt),
 }
 
 impl State {
-    /// A fresh chip, or nothing if the chip byte isn't 1 or 2.
+    /// A fresh chip, or nothing if the chip isn't built.
     pub fn fresh(chip: u8) -> Option<State> {
-        match chip {
-            1 => Some(State::Chip1(Chip1::fresh())),
-            2 => Some(State::Chip2(Chip2::fresh())),
-            _ => None,
+        match named(chip).ok()? {
+            Built::Chip1 => Some(State::Chip1(Chip1::fresh())),
+            Built::Chip2 => Some(State::Chip2(Chip2::fresh())),
         }
     }
 
@@ -30,53 +32,57 @@ impl State {
         match self {
             State::Chip1(_) => 1,
             State::Chip2(_) => 2,
+            State::NotBuilt(other) => other.chip(),
         }
     }
 
-    /// The values of all places, in the order of their numbers.
+    /// The values of all places, in the order of their numbers; none for a
+    /// chip that isn't built.
     pub fn places(&self) -> Vec<u8> {
         match self {
             State::Chip1(chip) => chip.places(),
             State::Chip2(chip) => chip.places(),
+            State::NotBuilt(_) => Vec::new(),
         }
     }
 
-    /// The state with these places, whatever their values; nothing if the chip
-    /// byte isn't 1 or 2 or the number of places isn't the chip's.
+    /// The state with this chip byte and these places, whatever their values;
+    /// nothing if the number of places isn't the chip's. A chip that isn't
+    /// built has 0 places.
     pub fn from_places(chip: u8, places: &[u8]) -> Option<State> {
-        if State::place_count(chip)? != places.len() {
+        if State::place_count(chip).unwrap_or(0) != places.len() {
             return None;
         }
-        Some(match chip {
-            1 => State::Chip1(Chip1::from_places(places)),
-            _ => State::Chip2(Chip2::from_places(places)),
+        Some(match named(chip) {
+            Ok(Built::Chip1) => State::Chip1(Chip1::from_places(places)),
+            Ok(Built::Chip2) => State::Chip2(Chip2::from_places(places)),
+            Err(other) => State::NotBuilt(other),
         })
     }
 
-    /// How many places a chip has, or nothing if the chip byte isn't 1 or 2.
+    /// How many places a chip has, or nothing if the chip isn't built.
     pub fn place_count(chip: u8) -> Option<usize> {
-        match chip {
-            1 => Some(chip1::PLACES),
-            2 => Some(chip2::PLACES),
-            _ => None,
+        Some(named(chip).ok()?.place_count())
+    }
+
+    /// The chip, or refusal 21 if it isn't built.
+    pub(crate) fn built(&self) -> Result<Built, Refusal> {
+        match self {
+            State::Chip1(_) => Ok(Built::Chip1),
+            State::Chip2(_) => Ok(Built::Chip2),
+            State::NotBuilt(_) => Err(Refusal::SnapshotChip),
         }
     }
 
-    /// Refusal 25 if a value is above its place's largest.
-    pub(crate) fn check_values(&self) -> Result<(), Refusal> {
-        let chip = self.chip();
+    /// What every call on a state looks for first: refusal 21 if the chip
+    /// isn't built, then 25 if a value is above its place's largest. Gives the
+    /// chip.
+    pub(crate) fn check(&self) -> Result<Built, Refusal> {
+        let chip = self.built()?;
         let mut places = self.places().into_iter().enumerate();
-        if places.any(|(place, value)| value > largest(chip, place)) {
+        if places.any(|(place, value)| value > chip.largest(place)) {
             return Err(Refusal::Value);
         }
-        Ok(())
-    }
-}
-
-/// The largest value of a place, for a chip byte of 1 or 2.
-pub(crate) fn largest(chip: u8, place: usize) -> u8 {
-    match chip {
-        1 => chip1::largest(place),
-        _ => chip2::largest(place),
+        Ok(chip)
     }
 }

@@ -17,6 +17,13 @@ impl Bench {
         }
     }
 
+    /// A chip that isn't built: its state has no places.
+    pub fn not_built(chip: u8) -> Bench {
+        Bench {
+            state: State::from_places(chip, &[]).unwrap(),
+        }
+    }
+
     pub fn with_places(chip: u8, pairs: &[(usize, u8)]) -> Bench {
         let mut bench = Bench::fresh(chip);
         for &(place, value) in pairs {

@@ -27,6 +27,17 @@ struct Census {
     pairs_breaking_the_condition: usize,
 }
 
+impl Census {
+    /// Counts the refusals of a log's answers and the colours of its ticks.
+    fn count_answers(&mut self, answers: &[Answer], ticks: &[Answer]) {
+        for answer in answers.iter().filter(|answer| answer[0] != 0) {
+            *self.refused.entry(answer[0]).or_insert(0) += 1;
+        }
+        let coloured = |answer: &&Answer| answer[0] == 0 && answer[3..] != [0; 15];
+        self.ticks_with_colour += ticks.iter().filter(coloured).count();
+    }
+}
+
 fn answers_of(events: &[Event], played: &Played, wanted: Sort) -> Vec<Answer> {
     let pairs = events.iter().zip(&played.answers);
     pairs
@@ -70,13 +81,7 @@ fn check_pair(census: &mut Census, chip: u8, snapshot: &[u8], one: &[Event], two
     census.painting += painting_one.len();
     census.pairs_with_other_ticks += usize::from(ticks_one != ticks_two);
     census.vertical_periods += one.iter().filter(|e| e.kind == kind::VERTICAL).count();
-    for answer in &played_one.answers {
-        if answer[0] != 0 {
-            *census.refused.entry(answer[0]).or_insert(0) += 1;
-        }
-    }
-    let coloured = |answer: &&Answer| answer[0] == 0 && answer[3..] != [0; 15];
-    census.ticks_with_colour += ticks_one.iter().filter(coloured).count();
+    census.count_answers(&played_one.answers, &ticks_one);
 }
 
 /// Runs `pairs` pairs on one chip, shuffled freely or under the condition.

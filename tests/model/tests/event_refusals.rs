@@ -1,8 +1,8 @@
-//! Refusals of an event called by itself: 25, 14, 15, then 1 to 5, each alone
-//! and with others present. A refused event hands back the state it got.
+//! Refusals of an event called by itself: 21, 25, 14, 15, then 1 to 5, each
+//! alone and with others present. A refused event hands back the state it got.
 
 use crate::common::Bench;
-use kit::{highest_kind, largest, p1, p2, place_count, used_bytes, CHIPS};
+use kit::{highest_kind, largest, not_built, p1, p2, place_count, used_bytes, CHIPS};
 use model::{kind, Operand};
 
 /// The event must be refused with this number and change nothing.
@@ -239,4 +239,74 @@ fn refusal_25_comes_before_14_15_and_1_to_5() {
     }
     assert_refused(&chip1, kind::READ, one_byte(0, 2), 25);
     assert_refused(&chip2, kind::READ, one_byte(0, 1), 25);
+}
+
+#[test]
+fn refusal_21_every_chip_that_is_not_built() {
+    let mut chips = 0;
+    for chip in not_built() {
+        let bench = Bench::not_built(chip);
+        for event_kind in 0..=kind::SAVE {
+            assert_refused(&bench, event_kind, [0; 8], 21);
+        }
+        chips += 1;
+    }
+    assert_eq!(chips, 256 - CHIPS.len());
+}
+
+#[test]
+fn refusal_21_hands_the_state_back_time_after_time() {
+    for chip in not_built() {
+        let mut bench = Bench::not_built(chip);
+        for _ in 0..3 {
+            assert_eq!(bench.write(0, 5), 21);
+            assert_eq!(bench.read(0), (21, 0));
+            for event_kind in [kind::TICK, kind::VERTICAL, kind::SAVE] {
+                assert_eq!(bench.event(event_kind, [0; 8])[0], 21);
+            }
+            assert_eq!(bench.state.chip(), chip);
+            assert_eq!(bench.state.places(), []);
+        }
+    }
+}
+
+#[test]
+fn refusal_21_comes_before_14_15_and_1_to_5() {
+    // Each event gives its own number on a fresh chip that is built, and 21 on
+    // every chip that isn't.
+    let cases = [
+        (1, highest_kind(1) + 1, [0; 8], 14),
+        (2, 200, [9; 8], 14),
+        (1, 255, one_byte(7, 1), 14),
+        (1, kind::WRITE, one_byte(2, 1), 15),
+        (2, kind::READ, one_byte(1, 1), 15),
+        (2, kind::TICK, one_byte(6, 1), 15),
+        (1, kind::VERTICAL, one_byte(0, 1), 15),
+        (2, kind::SAVE, one_byte(7, 1), 15),
+        (1, kind::WRITE, [4, 9, 0, 0, 0, 0, 0, 0], 1),
+        (2, kind::READ, one_byte(0, 255), 1),
+        (1, kind::READ, one_byte(0, 2), 2),
+        (2, kind::READ, one_byte(0, 1), 3),
+        (1, kind::TICK, one_byte(5, 32), 4),
+        (2, kind::TICK, one_byte(7, 2), 4),
+        (2, kind::VERTICAL, [0; 8], 5),
+    ];
+    for (built, event_kind, operand, number) in cases {
+        assert_refused(&Bench::fresh(built), event_kind, operand, number);
+        for chip in not_built() {
+            assert_refused(&Bench::not_built(chip), event_kind, operand, 21);
+        }
+    }
+}
+
+#[test]
+fn refusal_21_whatever_the_kind_and_the_operand() {
+    for chip in not_built() {
+        let bench = Bench::not_built(chip);
+        for event_kind in 0..=255 {
+            for operand in [[0; 8], [1; 8], [255; 8]] {
+                assert_refused(&bench, event_kind, operand, 21);
+            }
+        }
+    }
 }

@@ -1,7 +1,7 @@
 //! Which accesses paint, worked out by hand from document 01.
 
 use crate::common::Bench;
-use kit::{is_access, log_bytes, p1, p2, snapshot_bytes, Random, CHIPS};
+use kit::{chip_of_round, is_access, log_bytes, p1, p2, snapshot_bytes, Random};
 use kit::{read, save as save_event, tick, vertical, write};
 use model::{painting_accesses, save, Event, Refusal};
 
@@ -153,7 +153,7 @@ fn accesses_that_do_not_paint_change_nothing_that_is_shown() {
     let mut random = Random::seeded(0x5EED_0003);
     let (mut still, mut painted) = (0, 0);
     for round in 0..150 {
-        let chip = CHIPS[round % CHIPS.len()];
+        let chip = chip_of_round(round);
         let mut state = random.state(chip);
         for _ in 0..40 {
             let event = random.access();

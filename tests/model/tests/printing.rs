@@ -1,6 +1,6 @@
 //! The printing program's output, from the library and from `model-replay`.
 
-use kit::{highest_kind, log_bytes, Random, CHIPS, NOT_BUILT};
+use kit::{chip_of_round, highest_kind, log_bytes, not_built, Random, NOT_BUILT};
 use kit::{read, save, tick, vertical, write};
 use model::printed;
 use std::collections::BTreeMap;
@@ -91,6 +91,14 @@ fn a_refused_log_prints_its_number_alone() {
 }
 
 #[test]
+fn a_log_of_a_chip_that_is_not_built_prints_11() {
+    for chip in not_built() {
+        assert_eq!(printed(&[chip, 0, 0, 0, 0]), "refused 11\n");
+        assert_eq!(printed(&log_bytes(chip, &[read(0)])), "refused 11\n");
+    }
+}
+
+#[test]
 fn refusals_in_answers_are_printed_as_answers() {
     let log = log_bytes(2, &[vertical(), read(1), read(255)]);
     assert_eq!(
@@ -108,7 +116,7 @@ fn refusals_in_answers_are_printed_as_answers() {
 fn the_program_prints_what_the_library_prints() {
     let mut random = Random::seeded(0x5EED_0002);
     for round in 0..20 {
-        let chip = CHIPS[round % CHIPS.len()];
+        let chip = chip_of_round(round);
         let log = log_bytes(chip, &random.events(chip, 150));
         let text = printed(&log);
         assert_eq!(text.lines().count(), 151);
@@ -123,7 +131,7 @@ fn any_input_prints_a_refusal_or_all_its_answers() {
     let mut accepted = 0;
     for round in 0..4000 {
         // Good logs with one byte changed, cut or added, now and then.
-        let chip = CHIPS[round % CHIPS.len()];
+        let chip = chip_of_round(round);
         let count = random.below(6);
         let mut input = log_bytes(chip, &random.events(chip, count));
         match random.below(4) {

@@ -1,8 +1,8 @@
 //! Save then restore, restore then save, and the save event.
 
 use crate::common::play;
-use kit::{log_bytes, place_count, save as save_event, snapshot_bytes, vertical};
-use kit::{Random, CHIPS};
+use kit::{chip_of_round, log_bytes, place_count, save as save_event, snapshot_bytes};
+use kit::{vertical, Random, CHIPS};
 use model::{event, kind, restore, save, save_into, State};
 
 #[test]
@@ -10,7 +10,7 @@ fn save_then_restore_gives_the_state_back() {
     let mut random = Random::seeded(0x5EED_0010);
     let (mut empty, mut full) = (0, 0);
     for round in 0..400 {
-        let chip = CHIPS[round % CHIPS.len()];
+        let chip = chip_of_round(round);
         let state = random.state(chip);
         let bytes = save(&state).unwrap();
         let restored = restore(&bytes);
@@ -52,7 +52,7 @@ fn restore_then_save_gives_accepted_bytes_back() {
     let mut random = Random::seeded(0x5EED_0011);
     let (mut accepted, mut refused) = (0, 0);
     for round in 0..3000 {
-        let chip = CHIPS[round % CHIPS.len()];
+        let chip = chip_of_round(round);
         let mut bytes = save(&random.state(chip)).unwrap();
         // Most are damaged by one byte; many of those are still snapshots.
         if !random.one_in(4) {
@@ -76,7 +76,7 @@ fn restore_then_save_gives_accepted_bytes_back() {
 fn a_save_event_leaves_every_state_as_it_was() {
     let mut random = Random::seeded(0x5EED_0012);
     for round in 0..400 {
-        let state = random.state(CHIPS[round % CHIPS.len()]);
+        let state = random.state(chip_of_round(round));
         let (answer, next) = event(&state, kind::SAVE, &[0; 8]);
         assert_eq!(answer, [0; 18]);
         assert_eq!(next, state);
@@ -87,7 +87,7 @@ fn a_save_event_leaves_every_state_as_it_was() {
 fn saves_between_events_change_nothing_else() {
     let mut random = Random::seeded(0x5EED_0013);
     for round in 0..60 {
-        let chip = CHIPS[round % CHIPS.len()];
+        let chip = chip_of_round(round);
         let start = save(&random.state(chip)).unwrap();
         let mut plain = Vec::new();
         let mut saved = Vec::new();
@@ -112,7 +112,7 @@ fn saves_between_events_change_nothing_else() {
 fn logs_come_back_as_they_were_written() {
     let mut random = Random::seeded(0x5EED_0014);
     for round in 0..50 {
-        let chip = CHIPS[round % CHIPS.len()];
+        let chip = chip_of_round(round);
         let count = random.below(80);
         let mut events = random.events(chip, count);
         events.push(vertical());

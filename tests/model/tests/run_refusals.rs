@@ -1,7 +1,7 @@
 //! Refusals of a run: the snapshot's, the log's, 26, 30, 31, each alone, in
 //! every combination of groups, and in order inside each group.
 
-use kit::{highest_kind, log_bytes, not_built, place_count, snapshot_bytes};
+use kit::{chip_of_round, highest_kind, log_bytes, not_built, place_count, snapshot_bytes};
 use kit::{read, save, tick, vertical, write, Random, CHIPS, NOT_BUILT};
 use model::{kind, read_log, run, Event};
 
@@ -300,7 +300,7 @@ fn refusals_1_to_5_sit_in_their_answers_and_stop_nothing() {
 fn a_run_is_its_events_called_one_after_another() {
     let mut random = Random::seeded(0x5EED_0001);
     for round in 0..200 {
-        let chip = CHIPS[round % CHIPS.len()];
+        let chip = chip_of_round(round);
         let start = random.state(chip);
         let count = random.below(60);
         let events = random.events(chip, count);

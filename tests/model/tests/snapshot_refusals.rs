@@ -1,5 +1,6 @@
-//! Refusals of a restore (20 to 25), of a save (25) and of saving into a lent
-//! buffer (25, then 31), as calls of their own.
+//! Refusals of a restore (20 to 25), of a save (21, then 25) and of saving into
+//! a lent buffer (21, 25, then 31), as calls of their own; and which states
+//! there are.
 
 use crate::common::Bench;
 use kit::{largest, not_built, p1, p2, place_count, snapshot_bytes, CHIPS};
@@ -33,16 +34,44 @@ fn fresh_chips_are_three_bytes() {
 }
 
 #[test]
-fn a_state_cannot_name_a_chip_that_is_not_built() {
-    // So refusal 21 never comes from a state.
-    for chip in not_built() {
-        assert_eq!(State::fresh(chip), None);
-        assert_eq!(State::from_places(chip, &[0; p1::COUNT]), None);
+fn a_state_of_a_built_chip_has_that_chips_places() {
+    assert_eq!(State::from_places(1, &[0; p1::COUNT]), State::fresh(1));
+    assert_eq!(State::from_places(2, &[0; p2::COUNT]), State::fresh(2));
+    for (chip, count) in [(1, 789), (2, 774)] {
+        for wrong in [0, 1, count - 1, count + 1] {
+            assert_eq!(State::from_places(chip, &vec![0; wrong]), None);
+        }
+        let state = State::from_places(chip, &vec![255; count]).unwrap();
+        assert_eq!(state.chip(), chip);
+        assert_eq!(state.places(), vec![255; count]);
     }
     assert_eq!(State::from_places(1, &[0; p2::COUNT]), None);
     assert_eq!(State::from_places(2, &[0; p1::COUNT]), None);
-    assert_eq!(State::from_places(1, &[0; p1::COUNT]), State::fresh(1));
-    assert_eq!(State::from_places(2, &[0; p2::COUNT]), State::fresh(2));
+}
+
+#[test]
+fn a_state_of_a_chip_that_is_not_built_has_its_chip_byte_and_no_places() {
+    for chip in not_built() {
+        assert_eq!(State::fresh(chip), None);
+        assert_eq!(State::place_count(chip), None);
+        let state = State::from_places(chip, &[]).unwrap();
+        assert_eq!(state.chip(), chip);
+        assert_eq!(state.places(), []);
+        // With no places no value is above its largest: 25 never meets 21.
+        for count in [1, 3, p2::COUNT, p1::COUNT] {
+            assert_eq!(State::from_places(chip, &vec![0; count]), None);
+            assert_eq!(State::from_places(chip, &vec![255; count]), None);
+        }
+    }
+}
+
+#[test]
+fn states_of_two_chips_that_are_not_built_differ() {
+    for chip in not_built() {
+        let same = not_built()
+            .filter(|&other| State::from_places(other, &[]) == State::from_places(chip, &[]));
+        assert_eq!(same.collect::<Vec<u8>>(), [chip]);
+    }
 }
 
 #[test]
@@ -58,8 +87,11 @@ fn refusal_20_under_3_bytes() {
 fn refusal_21_chip() {
     for chip in not_built() {
         assert_refused(&[chip, 0, 0], 21);
-        // 21 comes before 22 and 23.
+        // 21 comes before 22, 23, 24 and 25.
         assert_refused(&[chip, 0xFF, 0xFF], 21);
+        assert_refused(&[chip, 1, 0], 21);
+        assert_refused(&snapshot_bytes(chip, &[(5, 1), (5, 1)]), 21);
+        assert_refused(&snapshot_bytes(chip, &[(5, 0)]), 21);
     }
 }
 
@@ -196,6 +228,18 @@ fn save_refuses_25() {
 }
 
 #[test]
+fn save_refuses_21() {
+    for chip in not_built() {
+        let bench = Bench::not_built(chip);
+        assert_eq!(
+            save(&bench.state).map_err(|refusal| refusal.number()),
+            Err(21)
+        );
+        assert_eq!(bench.state.chip(), chip);
+    }
+}
+
+#[test]
 fn save_into_a_lent_buffer_one_short_exact_and_longer() {
     for chip in CHIPS {
         let bench = Bench::with_places(chip, &[(2, 0x0A), (300, 0x3F)]);
@@ -209,12 +253,35 @@ fn save_into_a_lent_buffer_one_short_exact_and_longer() {
             assert_eq!(buffer[9..], vec![0xEE; size - 9]);
         }
         for size in [0, 9, 2325, 2369] {
-            let mut buffer = vec![0xEE; size];
-            let saved = save_into(&bench.state, &mut buffer);
-            assert_eq!(saved.refusal, Some(Refusal::EndBuffer));
-            assert_eq!(saved.length, 0);
-            assert_eq!(buffer, vec![0xEE; size]);
+            assert_save_into_refused(&bench, size, 31);
         }
+    }
+}
+
+/// Saving into a buffer of this size gives the number and length 0, and
+/// changes no byte.
+fn assert_save_into_refused(bench: &Bench, size: usize, number: u8) {
+    let mut buffer = vec![0xEE; size];
+    let saved = save_into(&bench.state, &mut buffer);
+    assert_eq!(saved.refusal.map(Refusal::number), Some(number));
+    assert_eq!(saved.length, 0);
+    assert_eq!(buffer, vec![0xEE; size]);
+}
+
+#[test]
+fn save_into_looks_for_21_before_31() {
+    for chip in not_built() {
+        let bench = Bench::not_built(chip);
+        for size in [0, 2, 3, 2325, 2369, 2370, 2371, 5000] {
+            assert_save_into_refused(&bench, size, 21);
+        }
+        assert_eq!(bench.state.chip(), chip);
+        assert_eq!(bench.state.places(), []);
+    }
+    // The same short buffers give 31 for chips that are built.
+    for size in [0, 2, 3, 2325, 2369] {
+        assert_save_into_refused(&Bench::fresh(1), size, 31);
+        assert_save_into_refused(&Bench::fresh(2), size, 31);
     }
 }
 
@@ -222,11 +289,7 @@ fn save_into_a_lent_buffer_one_short_exact_and_longer() {
 fn save_into_looks_for_25_before_31() {
     let bench = Bench::with_places(1, &[(p1::POSITION, 3)]);
     for size in [0, 2369, 2370] {
-        let mut buffer = vec![0xEE; size];
-        let saved = save_into(&bench.state, &mut buffer);
-        assert_eq!(saved.refusal, Some(Refusal::Value));
-        assert_eq!(saved.length, 0);
-        assert_eq!(buffer, vec![0xEE; size]);
+        assert_save_into_refused(&bench, size, 25);
     }
 }
 

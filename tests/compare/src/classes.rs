@@ -122,13 +122,7 @@ fn saves_between(random: &mut Random) -> Case {
 /// No place is 0, so the snapshot has its greatest length; some are largest.
 fn full_snapshot(random: &mut Random) -> Case {
     let chip = random.chip();
-    let places: Vec<u8> = (0..place_count(chip))
-        .map(|place| {
-            let most = largest(chip, place);
-            let between = 1 + random.up_to(most - 1);
-            random.pick(&[1, most, between])
-        })
-        .collect();
+    let places = random.full_places(chip);
     let count = random.pick(&[0, 1, 10]);
     let events = random.events(chip, count);
     let snapshot = snapshot_bytes(chip, &nonzero(&places));
@@ -209,7 +203,8 @@ fn any_bytes(random: &mut Random) -> Case {
     Case::exact(snapshot, log, random)
 }
 
-fn scramble(random: &mut Random, bytes: &mut Vec<u8>) {
+/// Some bytes changed, cut or added, or no sense at all.
+pub fn scramble(random: &mut Random, bytes: &mut Vec<u8>) {
     match random.below(5) {
         0 => {
             let len = random.below(40);

@@ -1,24 +1,38 @@
 //! Plays the classes and keeps count: what is tried once, and what is tried
 //! anew in each round.
 
+use crate::calls::classes as calls;
+use crate::calls::drive::{self, Batch};
+use crate::calls::record::{Record, TABLES};
 use crate::case::{claimed_count, described, Case};
 use crate::classes::{Class, Sweep, RANDOM, SWEEPS};
 use crate::library::{lacks, Call, Outcome};
 use crate::replay::{self, Input, INPUTS};
-use crate::report::{Report, RUNS};
+use crate::report::{Failure, Report, Subject, RUNS};
 use crate::sheets::{Sheet, SHEETS};
 use crate::shrink;
 use crate::shuffle::{Shuffle, SHUFFLES};
-use kit::Random;
+use kit::{hexadecimal, Random};
 use model::ANSWER_BYTES;
-use std::path::Path;
+use std::path::{Path, PathBuf};
 
 /// Tries that may be spent on making one failing case small.
 const TRIES_FOR_ONE: usize = 4_000;
+/// The same where each try runs a program.
+const RUNS_FOR_ONE: usize = 300;
 
 /// A pair whose ticks differ, so the painting condition is seen to matter.
 const CONDITION_MATTERS: &str = "demand 3: painting not kept, a tick differs";
 const CONDITION_HELD: &str = "demand 3: painting kept, ticks compared";
+
+/// The proved programs that are compared beside the library.
+#[derive(Default)]
+pub struct Programs {
+    /// The printing program.
+    pub replay: Option<PathBuf>,
+    /// The program that plays calls on a state.
+    pub calls: Option<PathBuf>,
+}
 
 pub struct Comparison {
     pub report: Report,
@@ -61,10 +75,10 @@ impl Comparison {
     }
 
     /// Makes a case small with what one failure may spend of the tries.
-    fn shrunk(&mut self, case: &Case, fails: &mut dyn FnMut(&Case) -> bool) -> Case {
-        let spent = self.tries.min(TRIES_FOR_ONE);
+    fn shrunk<T>(&mut self, most: usize, shrink: impl FnOnce(&mut usize) -> T) -> T {
+        let spent = self.tries.min(most);
         let mut left = spent;
-        let small = shrink::shrunk(case, &mut left, fails);
+        let small = shrink(&mut left);
         self.tries -= spent - left;
         small
     }
@@ -83,21 +97,31 @@ impl Comparison {
     /// Counts the refusals that an agreed run shows.
     fn count_refusals(&mut self, outcome: &Outcome, events: usize) {
         let refusal = outcome.result >> 16;
-        self.report.count(&RUNS, (refusal, ""));
+        self.report.count(&RUNS, (refusal, 0));
         if refusal == 0 {
             for answer in outcome.answers().chunks(ANSWER_BYTES).take(events) {
                 if answer[0] != 0 {
-                    self.report.count(&RUNS, (answer[0].into(), ""));
+                    self.report.count(&RUNS, (answer[0].into(), 0));
                 }
             }
         }
     }
 
     fn differs(&mut self, name: &'static str, case: &Case) {
-        let small = self.shrunk(case, &mut |case| case.differs());
+        let small = self.shrunk(TRIES_FOR_ONE, |tries| {
+            shrink::shrunk(case, tries, &mut |case| case.differs())
+        });
         let what = small.agreed().err().unwrap_or_default();
-        self.report
-            .failed(name, &what, small.size(), described(&small));
+        self.failed(name, what, &small);
+    }
+
+    fn failed(&mut self, name: &'static str, what: String, case: &Case) {
+        let failure = Failure {
+            what,
+            size: case.size(),
+            described: described(case),
+        };
+        self.report.failed(name, Subject::Library, failure);
     }
 
     fn random_class(&mut self, class: &Class, round: u64) {
@@ -142,8 +166,7 @@ impl Comparison {
                 Some(_) if case.differs() => self.differs(sheet.name, &case),
                 Some(wrong) => {
                     let what = format!("{}: {wrong}", example.name);
-                    self.report
-                        .failed(sheet.name, &what, case.size(), described(&case));
+                    self.failed(sheet.name, what, &case);
                 }
             }
         }
@@ -170,10 +193,13 @@ impl Comparison {
                     }
                 }
                 Err(_) => {
-                    let small = pair.shrunk(&mut self.tries);
-                    let what = small.check().err().unwrap_or_default();
-                    self.report
-                        .failed(shuffle.name, &what, small.size(), small.described());
+                    let small = self.shrunk(self.tries, |tries| pair.shrunk(tries));
+                    let failure = Failure {
+                        what: small.check().err().unwrap_or_default(),
+                        size: small.size(),
+                        described: small.described(),
+                    };
+                    self.report.failed(shuffle.name, Subject::Library, failure);
                 }
             }
         }
@@ -188,16 +214,91 @@ impl Comparison {
                 self.report.checked(input.name);
                 continue;
             }
-            let small = replay::shrunk(program, &bytes, piece);
-            let what = replay::wrong(program, &small, piece).unwrap_or_default();
-            self.report
-                .failed(input.name, &what, small.len(), replay::described(&small));
+            let small = self.shrunk(RUNS_FOR_ONE, |tries| {
+                replay::shrunk(program, &bytes, piece, tries)
+            });
+            let failure = Failure {
+                what: replay::wrong(program, &small, piece).unwrap_or_default(),
+                size: small.len(),
+                described: replay::described(&small),
+            };
+            self.report.failed(input.name, Subject::Replay, failure);
             return;
         }
     }
 
+    /// A run of the program `calls`: every record must be right.
+    fn calls(&mut self, name: &'static str, program: &Path, batch: &Batch) {
+        let Some((number, what)) = batch.wrong(program) else {
+            // A batch of no records is a case of its own.
+            for _ in 0..batch.records.len().max(1) {
+                self.report.checked(name);
+            }
+            for record in &batch.records {
+                for shown in record.shown() {
+                    self.report.count(record.table(), shown);
+                }
+            }
+            return;
+        };
+        let failure = match batch.records.get(number) {
+            Some(record) => self.failed_call(program, record, what),
+            None => Failure {
+                what,
+                size: batch.input().len(),
+                described: format!("  input {}\n", hexadecimal(&batch.input())),
+            },
+        };
+        self.report.failed(name, Subject::Calls, failure);
+    }
+
+    /// A record that is wrong, made small if it is wrong by itself.
+    fn failed_call(&mut self, program: &Path, record: &Record, what: String) -> Failure {
+        let (small, what) = match drive::wrong_alone(program, record) {
+            None => (
+                record.clone(),
+                format!("{what}, only behind the records before it"),
+            ),
+            Some(_) => {
+                let small =
+                    self.shrunk(RUNS_FOR_ONE, |tries| drive::shrunk(program, record, tries));
+                let what = drive::wrong_alone(program, &small).unwrap_or(what);
+                (small, what)
+            }
+        };
+        // Records of one call are equally long: bytes that are 0 don't count.
+        let bytes = small.bytes();
+        Failure {
+            what,
+            size: bytes.iter().filter(|&&byte| byte != 0).count(),
+            described: drive::described(&small),
+        }
+    }
+
+    fn call_class(&mut self, program: &Path, class: &calls::Class, round: u64) {
+        self.report.expect(class.name);
+        if self.report.has_failed(class.name) {
+            return;
+        }
+        let mut random = self.random(class.name, round);
+        let records = (0..class.records).map(|number| (class.make)(&mut random, number));
+        let batch = Batch::whole(records.collect());
+        self.calls(class.name, program, &batch);
+    }
+
+    fn call_sweep(&mut self, program: &Path, sweep: &calls::Sweep) {
+        self.report.expect(sweep.name);
+        let mut random = self.random(sweep.name, 0);
+        for batch in (sweep.batches)(&mut random) {
+            if self.report.has_failed(sweep.name) {
+                return;
+            }
+            self.calls(sweep.name, program, &batch);
+        }
+    }
+
     /// Everything that is tried once.
-    pub fn once(&mut self, replay: Option<&Path>) {
+    pub fn once(&mut self, programs: &Programs) {
         if Call::Run.is_there() || !self.may_lack {
             self.report.expect_outcomes(&RUNS);
         }
@@ -207,14 +308,23 @@ impl Comparison {
         for sweep in SWEEPS {
             self.sweep(sweep);
         }
-        for input in INPUTS {
-            if let Some(program) = replay {
-                self.replays(program, input);
+        if let Some(replay) = &programs.replay {
+            for input in INPUTS {
+                self.replays(replay, input);
+            }
+        }
+        if let Some(program) = &programs.calls {
+            for table in TABLES {
+                self.report.expect_outcomes(table);
+            }
+            for sweep in calls::SWEEPS {
+                self.call_sweep(program, sweep);
             }
         }
     }
 
-    pub fn round(&mut self, round: u64) {
+    /// Everything that is tried anew in each round.
+    pub fn round(&mut self, programs: &Programs, round: u64) {
         for class in RANDOM {
             self.random_class(class, round);
         }
@@ -223,5 +333,10 @@ impl Comparison {
         }
         self.begins(CONDITION_HELD, Call::Run);
         self.begins(CONDITION_MATTERS, Call::Run);
+        if let Some(program) = &programs.calls {
+            for class in calls::RANDOM {
+                self.call_class(program, class, round);
+            }
+        }
     }
 }

@@ -194,14 +194,7 @@ pub fn several_faults(random: &mut Random) -> Case {
 pub fn two_indexed_faults(random: &mut Random) -> Case {
     let chip = random.chip();
     if random.one_in(2) {
-        let places = random.places(chip);
-        let mut pairs = nonzero(&places);
-        pairs.splice(0..0, first_places(&pairs));
-        damage_value(random, chip, &mut pairs);
-        if !random.one_in(4) {
-            damage_place(random, chip, &mut pairs);
-        }
-        let snapshot = snapshot_bytes(chip, &pairs);
+        let snapshot = snapshot_with_two_faults(random, chip);
         return Case::exact(snapshot, log_bytes(chip, &[]), random);
     }
     let count = 1 + random.below(8);
@@ -212,6 +205,19 @@ pub fn two_indexed_faults(random: &mut Random) -> Case {
     }
     let snapshot = random.snapshot(chip);
     Case::exact(snapshot, log_bytes(chip, &events), random)
+}
+
+/// A value and, mostly, a place at fault, each at the first, the last or any
+/// index, sometimes at one index.
+pub fn snapshot_with_two_faults(random: &mut Random, chip: u8) -> Vec<u8> {
+    let places = random.places(chip);
+    let mut pairs = nonzero(&places);
+    pairs.splice(0..0, first_places(&pairs));
+    damage_value(random, chip, &mut pairs);
+    if !random.one_in(4) {
+        damage_place(random, chip, &mut pairs);
+    }
+    snapshot_bytes(chip, &pairs)
 }
 
 /// Some places before the first one there is, so that there are always a few.

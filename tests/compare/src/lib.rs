@@ -2,6 +2,7 @@
 //! model, and checks demand 3 and the data sheets' examples on the library
 //! itself. The programs in src/bin say how they use it.
 
+pub mod calls;
 pub mod case;
 pub mod classes;
 pub mod comparison;

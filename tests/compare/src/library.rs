@@ -2,7 +2,7 @@
 //! bytes around everything that is lent.
 //!
 //! A call takes byte strings, each a pointer and a length, and returns a
-//! number. A new call is a line in the table below.
+//! number. To add one, add its line to the table below.
 
 use kit::Random;
 use std::ptr;

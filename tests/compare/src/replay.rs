@@ -121,8 +121,9 @@ fn first_difference(output: &[u8], expected: &[u8]) -> String {
     }
 }
 
-/// A shorter input that is still wrong, found by taking events away.
-pub fn shrunk(program: &Path, bytes: &[u8], piece: usize) -> Vec<u8> {
+/// A shorter input that is still wrong, found by taking events away, in at most
+/// `tries` runs, which are taken off.
+pub fn shrunk(program: &Path, bytes: &[u8], piece: usize, tries: &mut usize) -> Vec<u8> {
     let case = Case {
         snapshot: vec![1, 0, 0],
         log: bytes.to_vec(),
@@ -132,7 +133,7 @@ pub fn shrunk(program: &Path, bytes: &[u8], piece: usize) -> Vec<u8> {
         null_if_empty: false,
     };
     let mut fails = |case: &Case| wrong(program, &case.log, piece).is_some();
-    crate::shrink::shrunk(&case, &mut 300, &mut fails).log
+    crate::shrink::shrunk(&case, tries, &mut fails).log
 }
 
 pub fn described(bytes: &[u8]) -> String {

@@ -3,9 +3,9 @@
 use model::Refusal;
 use std::collections::BTreeMap;
 
-/// What an outcome showed: the refusal's number, 0 if it was accepted, and what
-/// else was the matter with the case, if that is counted by itself.
-pub type Shown = (u64, &'static str);
+/// What an outcome showed: the refusal's number, 0 if it was accepted; and the
+/// number that would have come but for it, 0 if none is counted.
+pub type Shown = (u64, u64);
 
 /// A line of the verdict: what must have been shown, and what it means.
 pub struct Row {
@@ -16,14 +16,22 @@ pub struct Row {
 /// A refusal that must have been shown.
 pub const fn row(refusal: Refusal, meaning: &'static str) -> Row {
     Row {
-        shown: (refusal as u64, ""),
+        shown: (refusal as u64, 0),
         meaning,
+    }
+}
+
+/// A refusal that must have been shown where another would have come next.
+pub const fn before(first: Refusal, next: Refusal) -> Row {
+    Row {
+        shown: (first as u64, next as u64),
+        meaning: "",
     }
 }
 
 /// An accepted outcome that must have been shown.
 pub const ACCEPTED: Row = Row {
-    shown: (0, ""),
+    shown: (0, 0),
     meaning: "accepted",
 };
 
@@ -35,7 +43,7 @@ pub struct Table {
 
 /// Every refusal of document 01's table that a run can show: 1 to 5 in
 /// answers, the others returned.
-pub const RUNS: Table = Table {
+pub static RUNS: Table = Table {
     title: "runs",
     rows: &[
         ACCEPTED,
@@ -73,6 +81,27 @@ struct Line {
     left_out: bool,
 }
 
+/// What a failing case is an input of.
+#[derive(Clone, Copy, PartialEq, Eq, PartialOrd, Ord)]
+pub enum Subject {
+    /// The library.
+    Library,
+    /// The printing program.
+    Replay,
+    /// The program that plays calls on a state.
+    Calls,
+}
+
+/// A failing case.
+pub struct Failure {
+    /// What differs.
+    pub what: String,
+    /// The bytes of its inputs, or those that count.
+    pub size: usize,
+    /// The case as a person can replay it.
+    pub described: String,
+}
+
 /// How often each outcome of a sort of call was reached and agreed on.
 struct Tally {
     table: &'static Table,
@@ -83,8 +112,8 @@ struct Tally {
 pub struct Report {
     lines: Vec<Line>,
     tallies: Vec<Tally>,
-    /// The smallest failing case: its size, its class and its description.
-    smallest: Option<(usize, &'static str, String)>,
+    /// The smallest failing case of each subject, and its class.
+    smallest: BTreeMap<Subject, (&'static str, Failure)>,
 }
 
 impl Report {
@@ -149,13 +178,14 @@ impl Report {
         }
     }
 
-    /// Notes a class as failed; the smallest failing case is printed at the
-    /// end, its size being the bytes of its inputs.
-    pub fn failed(&mut self, name: &'static str, what: &str, size: usize, described: String) {
+    /// Notes a class as failed; the smallest failing case of each
+    /// subject is printed at the end.
+    pub fn failed(&mut self, name: &'static str, subject: Subject, failure: Failure) {
         self.line(name).failed = true;
-        println!("FAILED {name}: {what}");
-        if self.smallest.as_ref().is_none_or(|best| size < best.0) {
-            self.smallest = Some((size, name, format!("  {what}\n{described}")));
+        println!("FAILED {name}: {}", failure.what);
+        let best = self.smallest.get(&subject);
+        if best.is_none_or(|(_, best)| failure.size < best.size) {
+            self.smallest.insert(subject, (name, failure));
         }
     }
 
@@ -179,8 +209,14 @@ impl Report {
         for tally in &self.tallies {
             tally.judge(&mut judge);
         }
-        if let Some((_, name, described)) = &self.smallest {
-            println!("the smallest case found, in the class '{name}':\n{described}");
+        for (
+            name,
+            Failure {
+                what, described, ..
+            },
+        ) in self.smallest.values()
+        {
+            println!("the smallest case found, in the class '{name}':\n  {what}\n{described}");
         }
         println!("{} passed, {} failed", judge.passed, judge.failed);
         judge.failed == 0 && judge.passed > 0
@@ -213,12 +249,16 @@ impl Tally {
             let reached = self.shown.get(&row.shown).copied().unwrap_or(0);
             let verdict = judge.say(reached > 0);
             let number = row.shown.0;
-            println!("{verdict:<8} {reached:>6}  {number:>2} {}", row.meaning);
+            let meaning = match row.shown.1 {
+                0 => row.meaning.to_string(),
+                next => format!("before {next}"),
+            };
+            println!("{verdict:<8} {reached:>6}  {number:>2} {meaning}");
         }
         let listed = |shown: &Shown| self.table.rows.iter().any(|row| row.shown == *shown);
-        for ((number, beside), reached) in self.shown.iter().filter(|(shown, _)| !listed(shown)) {
+        for ((number, next), reached) in self.shown.iter().filter(|(shown, _)| !listed(shown)) {
             let verdict = judge.say(false);
-            println!("{verdict:<8} {reached:>6}  {number:>2} {beside} isn't listed");
+            println!("{verdict:<8} {reached:>6}  {number:>2} before {next} isn't listed");
         }
     }
 }

@@ -46,6 +46,17 @@ impl Random {
         places
     }
 
+    /// An accepted state's places, none of them 0; some are largest.
+    pub fn full_places(&mut self, chip: u8) -> Vec<u8> {
+        (0..place_count(chip))
+            .map(|place| {
+                let most = largest(chip, place);
+                let between = 1 + self.up_to(most - 1);
+                self.pick(&[1, most, between])
+            })
+            .collect()
+    }
+
     fn value(&mut self, chip: u8, place: usize, fill: usize) -> u8 {
         if self.below(100) < fill {
             self.up_to(largest(chip, place))
@@ -176,11 +187,8 @@ impl Random {
         }
     }
 
-    /// A tick or a vertical period; some ticks have an undefined bit set.
-    pub fn display(&mut self, chip: u8) -> Event {
-        if self.one_in(4) {
-            return vertical();
-        }
+    /// A tick with no undefined bit.
+    pub fn tick(&mut self, chip: u8) -> Event {
         let mut operand = [0; 8];
         match chip {
             1 => {
@@ -197,11 +205,26 @@ impl Random {
             }
             _ => no_such_chip(chip),
         }
-        if self.one_in(12) {
-            let (byte, bits) = self.pick(undefined_tick_bits(chip));
-            operand[byte] |= self.bit_of(bits);
-        }
         tick(operand)
+    }
+
+    /// A tick with an undefined bit set.
+    pub fn odd_tick(&mut self, chip: u8) -> Event {
+        let mut tick = self.tick(chip);
+        let (byte, bits) = self.pick(undefined_tick_bits(chip));
+        tick.operand[byte] |= self.bit_of(bits);
+        tick
+    }
+
+    /// A tick or a vertical period; some ticks have an undefined bit set.
+    pub fn display(&mut self, chip: u8) -> Event {
+        if self.one_in(4) {
+            vertical()
+        } else if self.one_in(12) {
+            self.odd_tick(chip)
+        } else {
+            self.tick(chip)
+        }
     }
 
     /// Any event that a log of this chip may hold.

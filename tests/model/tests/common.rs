@@ -1,9 +1,11 @@
-//! What the test files share beside the kit: a bench around one state, and a
-//! run with its own buffers.
+//! What the test files share beside the kit: a bench around one state, a run
+//! with its own buffers, and a run of a program.
 
 use kit::log_bytes;
 use model::{event, kind, run, Answer, Event, Operand, State};
 use model::{ANSWER_BYTES, END_BUFFER_BYTES};
+use std::io::Write;
+use std::process::{Command, Stdio};
 
 /// One chip on a bench: events go in, answers come out, places can be seen.
 pub struct Bench {
@@ -131,4 +133,17 @@ pub fn play(chip: u8, snapshot: &[u8], events: &[Event]) -> Played {
         .map(|bytes| bytes.try_into().unwrap())
         .collect();
     Played { answers, end }
+}
+
+/// What a program prints for an input.
+pub fn output_of(program: &str, input: &[u8]) -> String {
+    let mut child = Command::new(program)
+        .stdin(Stdio::piped())
+        .stdout(Stdio::piped())
+        .spawn()
+        .unwrap();
+    child.stdin.take().unwrap().write_all(input).unwrap();
+    let output = child.wait_with_output().unwrap();
+    assert!(output.status.success());
+    String::from_utf8(output.stdout).unwrap()
 }

@@ -1,22 +1,13 @@
 //! The printing program's output, from the library and from `model-replay`.
 
+use crate::common::output_of;
 use kit::{chip_of_round, highest_kind, log_bytes, not_built, Random, NOT_BUILT};
 use kit::{read, save, tick, vertical, write};
 use model::printed;
 use std::collections::BTreeMap;
-use std::io::Write;
-use std::process::{Command, Stdio};
 
 fn printed_by_program(input: &[u8]) -> String {
-    let mut child = Command::new(env!("CARGO_BIN_EXE_model-replay"))
-        .stdin(Stdio::piped())
-        .stdout(Stdio::piped())
-        .spawn()
-        .unwrap();
-    child.stdin.take().unwrap().write_all(input).unwrap();
-    let output = child.wait_with_output().unwrap();
-    assert!(output.status.success());
-    String::from_utf8(output.stdout).unwrap()
+    output_of(env!("CARGO_BIN_EXE_model-replay"), input)
 }
 
 #[test]

@@ -2,11 +2,11 @@
 //! checks demand 3 and the data sheets' examples on the library itself, and
 //! compares the proved programs' output with the model's.
 //!
-//! compare [--seconds N] [--seed S] [--replay PATH] [--tries N] [--may-lack] [--trace]
+//! compare [--seconds N] [--seed S] [--replay PATH] [--calls PATH] [--tries N] [--may-lack] [--trace]
 //! compare --time [--seed S]
 //! compare --write DIR [--seed S]
 
-use compare::comparison::Comparison;
+use compare::comparison::{Comparison, Programs};
 use compare::library::{lacks, Call};
 use compare::report::Report;
 use compare::{replay, time};
@@ -21,13 +21,14 @@ const ROUNDS: u64 = 30;
 const DEFAULT_SEED: u64 = 0x7A19_E261;
 /// Tries that may be spent on making failing cases small.
 const DEFAULT_TRIES: usize = 12_000;
-const USAGE: &str = "compare [--seconds N] [--seed S] [--replay PATH] [--tries N] \
-    [--may-lack] [--trace] | compare --time [--seed S] | compare --write DIR [--seed S]";
+const USAGE: &str = "compare [--seconds N] [--seed S] [--replay PATH] [--calls PATH] \
+    [--tries N] [--may-lack] [--trace] | compare --time [--seed S] \
+    | compare --write DIR [--seed S]";
 
 struct Options {
     seconds: Option<u64>,
     seed: u64,
-    replay: Option<PathBuf>,
+    programs: Programs,
     tries: usize,
     may_lack: bool,
     trace: bool,
@@ -46,7 +47,7 @@ fn options(mut arguments: impl Iterator<Item = String>) -> Option<Options> {
     let mut options = Options {
         seconds: None,
         seed: DEFAULT_SEED,
-        replay: None,
+        programs: Programs::default(),
         tries: DEFAULT_TRIES,
         may_lack: false,
         trace: false,
@@ -57,7 +58,8 @@ fn options(mut arguments: impl Iterator<Item = String>) -> Option<Options> {
         match argument.as_str() {
             "--seconds" => options.seconds = Some(number(&arguments.next()?)?),
             "--seed" => options.seed = number(&arguments.next()?)?,
-            "--replay" => options.replay = Some(arguments.next()?.into()),
+            "--replay" => options.programs.replay = Some(arguments.next()?.into()),
+            "--calls" => options.programs.calls = Some(arguments.next()?.into()),
             "--tries" => options.tries = number(&arguments.next()?)? as usize,
             "--may-lack" => options.may_lack = true,
             "--trace" => options.trace = true,
@@ -78,10 +80,10 @@ fn compared(options: &Options) -> bool {
         tries: options.tries,
         may_lack: options.may_lack,
     };
-    comparison.once(options.replay.as_deref());
+    comparison.once(&options.programs);
     let mut rounds = 0;
     loop {
-        comparison.round(rounds);
+        comparison.round(&options.programs, rounds);
         rounds += 1;
         let enough = match options.seconds {
             Some(seconds) => started.elapsed() >= Duration::from_secs(seconds),

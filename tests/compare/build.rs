@@ -1,5 +1,10 @@
-//! Links the static library that LIBPALETTE names. A relative path is taken
-//! from the repository's root, whatever folder cargo is started in.
+//! Links the library that LIBPALETTE names, an archive or a shared library. A
+//! relative path is taken from the repository's root, whatever folder cargo is
+//! started in.
+//!
+//! The calls are weak references (src/library.rs), which alone would pull
+//! nothing out of an archive and need no shared library. So the archive is
+//! linked whole, and the shared library is needed as it stands.
 
 use std::env;
 use std::path::{Path, PathBuf};
@@ -11,11 +16,19 @@ fn main() {
     let root = here.join("../..");
     let named = env::var_os("LIBPALETTE").unwrap_or_else(|| DEFAULT.into());
     // An absolute path replaces the root.
-    let archive = root.join(Path::new(&named));
+    let library = root.join(Path::new(&named));
     println!("cargo:rerun-if-env-changed=LIBPALETTE");
-    println!("cargo:rerun-if-changed={}", archive.display());
-    if !archive.is_file() {
-        println!("cargo:warning=there is no library at {}", archive.display());
+    println!("cargo:rerun-if-changed={}", library.display());
+    if !library.is_file() {
+        println!("cargo:warning=there is no library at {}", library.display());
     }
-    println!("cargo:rustc-link-arg-bins={}", archive.display());
+    let archive = library.extension().is_some_and(|end| end == "a");
+    let (before, after) = if archive {
+        ("-Wl,--whole-archive", "-Wl,--no-whole-archive")
+    } else {
+        ("-Wl,--no-as-needed", "-Wl,--as-needed")
+    };
+    println!("cargo:rustc-link-arg-bins={before}");
+    println!("cargo:rustc-link-arg-bins={}", library.display());
+    println!("cargo:rustc-link-arg-bins={after}");
 }

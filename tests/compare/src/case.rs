@@ -1,9 +1,13 @@
 //! One case: a snapshot, a log and two buffers, run by the library and by the
 //! second model.
 
-use crate::library::{self, Outcome};
-use crate::random::Random;
-use model::{Event, Log, ANSWER_BYTES, END_BUFFER_BYTES};
+use crate::library::{self, difference, in_words, Call, Outcome};
+use kit::{hexadecimal, Random};
+use model::{ANSWER_BYTES, END_BUFFER_BYTES, MOST_EVENTS};
+
+/// The numbers of a run's byte strings that are written.
+const ANSWERS: usize = 2;
+const END: usize = 3;
 
 #[derive(Clone)]
 pub struct Case {
@@ -32,19 +36,14 @@ impl Case {
 
     /// The pattern that a buffer holds before the run.
     fn pattern(&self, len: usize, salt: u64) -> Vec<u8> {
-        let mut random = Random::seeded(self.layout ^ salt);
-        (0..len).map(|_| random.byte()).collect()
+        Random::seeded(self.layout ^ salt).bytes(len)
     }
 
     pub fn run_library(&self) -> Outcome {
-        library::run(
-            &self.snapshot,
-            &self.log,
-            &self.pattern(self.answers_len, 1),
-            &self.pattern(self.end_len, 2),
-            self.layout,
-            self.null_if_empty,
-        )
+        let answers = self.pattern(self.answers_len, 1);
+        let end = self.pattern(self.end_len, 2);
+        let strings = [&self.snapshot[..], &self.log, &answers, &end];
+        library::call(Call::Run, &strings, self.layout, self.null_if_empty)
     }
 
     pub fn run_model(&self) -> Outcome {
@@ -53,8 +52,7 @@ impl Case {
         let result = model::run(&self.snapshot, &self.log, &mut answers, &mut end);
         Outcome {
             result,
-            answers,
-            end,
+            strings: vec![self.snapshot.clone(), self.log.clone(), answers, end],
             trespass: None,
         }
     }
@@ -62,7 +60,7 @@ impl Case {
     /// What both gave, or what differs.
     pub fn agreed(&self) -> Result<Outcome, String> {
         let library = self.run_library();
-        match difference(&library, &self.run_model()) {
+        match difference(Call::Run, &library, &self.run_model()) {
             None => Ok(library),
             Some(difference) => Err(difference),
         }
@@ -78,54 +76,28 @@ impl Case {
     }
 }
 
-/// The first difference between what the library and the model gave.
-fn difference(library: &Outcome, model: &Outcome) -> Option<String> {
-    if let Some(trespass) = library.trespass {
-        return Some(trespass.to_string());
+impl Outcome {
+    /// The answer buffer of a run.
+    pub fn answers(&self) -> &[u8] {
+        &self.strings[ANSWERS]
     }
-    if library.result != model.result {
-        return Some(format!(
-            "the library returned {}, the model {}",
-            in_words(library.result),
-            in_words(model.result)
-        ));
-    }
-    buffer_difference("answer buffer", &library.answers, &model.answers)
-        .or_else(|| buffer_difference("end buffer", &library.end, &model.end))
-}
 
-fn buffer_difference(name: &str, library: &[u8], model: &[u8]) -> Option<String> {
-    let index = (0..model.len()).find(|&i| library[i] != model[i])?;
-    Some(format!(
-        "{name}, byte {index}: the library has {:02x}, the model {:02x}",
-        library[index], model[index]
-    ))
-}
-
-/// A returned number as refusal and length.
-pub fn in_words(result: u64) -> String {
-    match result >> 16 {
-        0 => format!("length {result}"),
-        refusal if result & 0xFFFF == 0 => format!("refusal {refusal}"),
-        refusal => format!("refusal {refusal} with length {}", result & 0xFFFF),
+    /// The end buffer of a run.
+    pub fn end(&self) -> &[u8] {
+        &self.strings[END]
     }
 }
 
-/// The count that a log's header claims, cut to what a test may allocate.
+/// The count that a log's header claims, cut to one over the limit: a test
+/// needs no larger buffer.
 pub fn claimed_count(log: &[u8]) -> usize {
     match log {
-        &[_, n0, n1, n2, n3, ..] => u32::from_le_bytes([n0, n1, n2, n3]).min(3001) as usize,
+        &[_, n0, n1, n2, n3, ..] => {
+            let claimed = u32::from_le_bytes([n0, n1, n2, n3]) as usize;
+            claimed.min(MOST_EVENTS + 1)
+        }
         _ => 0,
     }
-}
-
-pub fn log_bytes(chip: u8, events: &[Event]) -> Vec<u8> {
-    let events = events.to_vec();
-    Log { chip, events }.to_bytes()
-}
-
-pub fn hexadecimal(bytes: &[u8]) -> String {
-    bytes.iter().map(|byte| format!("{byte:02x}")).collect()
 }
 
 /// The case as a person can replay it, and what each side made of it.
@@ -142,10 +114,10 @@ pub fn described(case: &Case) -> String {
         case.layout,
         if case.null_if_empty { ", null if empty" } else { "" },
         in_words(library.result),
-        shown(&library.answers),
-        shown(&library.end),
+        shown(library.answers()),
+        shown(library.end()),
         in_words(model.result),
-        shown(&model.answers),
-        shown(&model.end),
+        shown(model.answers()),
+        shown(model.end()),
     )
 }

@@ -1,12 +1,11 @@
 //! The classes of random cases. Each makes one case; the case decides nothing
 //! about what is right, the model does.
 
-use crate::case::{log_bytes, Case};
+use crate::case::Case;
 use crate::damage::{damage_length, damaged_log, damaged_snapshot};
-use crate::damage::{several_faults, two_indexed_faults};
-use crate::generate::{address_place, largest, nonzero, place_count};
-use crate::generate::{read, save, snapshot_bytes, tick, vertical, write};
-use crate::random::Random;
+use crate::damage::{several_faults, two_indexed_faults, LOG_FAULTS, SNAPSHOT_FAULTS};
+use kit::{address_place, largest, log_bytes, nonzero, place_count, snapshot_bytes};
+use kit::{c, read, save, tick, vertical, write, Random, CHIPS};
 use model::{Event, END_BUFFER_BYTES, MOST_EVENTS};
 
 /// A class of random cases.
@@ -31,14 +30,14 @@ pub const RANDOM: &[Class] = &[
     class("full snapshots", 60, full_snapshot),
     class("logs at the limit and one more", 6, limit),
     class("damaged snapshot", 1200, |random| {
-        let (chip, number) = (random.chip(), 20 + random.up_to(5));
-        let snapshot = damaged_snapshot(random, chip, number);
+        let (chip, fault) = (random.chip(), random.pick(&SNAPSHOT_FAULTS));
+        let snapshot = damaged_snapshot(random, chip, fault);
         let log = log_bytes(chip, &random.events(chip, 2));
         Case::exact(snapshot, log, random)
     }),
     class("damaged log", 1200, |random| {
-        let (chip, number) = (random.chip(), 10 + random.up_to(5));
-        let log = damaged_log(random, chip, number);
+        let (chip, fault) = (random.chip(), random.pick(&LOG_FAULTS));
+        let log = damaged_log(random, chip, fault);
         let snapshot = random.snapshot(chip);
         Case::exact(snapshot, log, random)
     }),
@@ -63,23 +62,26 @@ fn any_log(random: &mut Random, chip: u8) -> Case {
 
 fn one_event(random: &mut Random) -> Case {
     let chip = random.chip();
-    let events = random.events(chip, 1);
+    let event = random.event(chip);
     let snapshot = random.snapshot(chip);
-    Case::exact(snapshot, log_bytes(chip, &events), random)
+    Case::exact(snapshot, log_bytes(chip, &[event]), random)
 }
 
-/// Many vertical periods with ticks between them, rates and masks changing.
+/// Chip 1: many vertical periods with ticks between them, rates and masks
+/// changing.
 fn blink_cycle(random: &mut Random) -> Case {
-    let mut events = vec![write(0, 4), write(2, 0xFF), write(0, 5)];
-    events.extend([write(2, random.byte()), write(0, 6)]);
-    events.push(write(2, 0x40 | random.byte()));
+    let registers = [(4, 0xFF), (5, random.byte()), (6, 0x40 | random.byte())];
+    let mut events: Vec<Event> = registers
+        .into_iter()
+        .flat_map(|(address, byte)| [write(c::ADDRESS, address), write(c::CONTROL, byte)])
+        .collect();
     for _ in 0..140 {
         events.push(vertical());
         let (ol0, ol1) = (random.byte() & 31, random.byte() & 31);
         let mut pixel = || random.byte();
         events.push(tick([pixel(), pixel(), pixel(), 255, 0, ol0, ol1, 1]));
         if random.one_in(40) {
-            events.push(write(2, random.byte()));
+            events.push(write(c::CONTROL, random.byte()));
         }
     }
     let snapshot = random.snapshot(1);
@@ -120,13 +122,7 @@ fn saves_between(random: &mut Random) -> Case {
 /// No place is 0, so the snapshot has its greatest length; some are largest.
 fn full_snapshot(random: &mut Random) -> Case {
     let chip = random.chip();
-    let places: Vec<u8> = (0..place_count(chip))
-        .map(|place| {
-            let most = largest(chip, place);
-            let between = 1 + random.up_to(most - 1);
-            random.pick(&[1, most, between])
-        })
-        .collect();
+    let places = random.full_places(chip);
     let count = random.pick(&[0, 1, 10]);
     let events = random.events(chip, count);
     let snapshot = snapshot_bytes(chip, &nonzero(&places));
@@ -161,8 +157,9 @@ fn one_off(random: &mut Random) -> Case {
 
 fn two_chips(random: &mut Random) -> Case {
     let chip = random.chip();
+    let other = random.other_chip(chip);
     let count = random.below(5);
-    let log = log_bytes(3 - chip, &random.events(3 - chip, count));
+    let log = log_bytes(other, &random.events(other, count));
     let snapshot = random.snapshot(chip);
     Case::exact(snapshot, log, random)
 }
@@ -183,7 +180,9 @@ fn buffers(random: &mut Random) -> Case {
         END_BUFFER_BYTES + 40,
     ]);
     if random.one_in(8) {
-        case.end_len = random.pick(&[0, 3, 2325]);
+        // The last is the smallest chip's longest snapshot.
+        let fewest = CHIPS.into_iter().map(place_count).min().unwrap_or(0);
+        case.end_len = random.pick(&[0, 3, 3 + 3 * fewest]);
     }
     if random.one_in(8) {
         case.answers_len = 0;
@@ -204,7 +203,8 @@ fn any_bytes(random: &mut Random) -> Case {
     Case::exact(snapshot, log, random)
 }
 
-fn scramble(random: &mut Random, bytes: &mut Vec<u8>) {
+/// Some bytes changed, cut or added, or no sense at all.
+pub fn scramble(random: &mut Random, bytes: &mut Vec<u8>) {
     match random.below(5) {
         0 => {
             let len = random.below(40);
@@ -267,7 +267,7 @@ fn lively(random: &mut Random, chip: u8, address: u8, position: u8) -> Vec<u8> {
 
 fn every_selector(random: &mut Random) -> Vec<Case> {
     let mut cases = Vec::new();
-    for chip in [1, 2] {
+    for chip in CHIPS {
         for selector in 0..=255 {
             for event in [write(selector, random.byte()), read(selector)] {
                 let snapshot = lively(random, chip, random_address(selector), selector % 3);
@@ -285,7 +285,7 @@ fn random_address(number: u8) -> u8 {
 
 fn every_address(random: &mut Random) -> Vec<Case> {
     let mut cases = Vec::new();
-    for chip in [1, 2] {
+    for chip in CHIPS {
         for address in 0..=255 {
             for position in 0..=2 {
                 let mut events = Vec::new();
@@ -303,16 +303,20 @@ fn every_address(random: &mut Random) -> Vec<Case> {
 
 fn every_kind_and_level(random: &mut Random) -> Vec<Case> {
     let mut cases = Vec::new();
-    for chip in [1, 2] {
+    for chip in CHIPS {
         for byte in 0..=255 {
             let odd_kind = Event {
                 kind: byte,
                 operand: [0; 8],
             };
             let mut events = vec![odd_kind, tick([byte, 0, 0, 0, 0, 0, 0, byte])];
-            if chip == 1 {
-                events.push(tick([byte, 1, 2, 3, 4, byte, 0, 1]));
-                events.push(tick([byte, 1, 2, 3, 4, 0, byte, 3]));
+            match chip {
+                1 => events.extend([
+                    tick([byte, 1, 2, 3, 4, byte, 0, 1]),
+                    tick([byte, 1, 2, 3, 4, 0, byte, 3]),
+                ]),
+                2 => {}
+                _ => panic!("the ticks of chip {chip} aren't listed"),
             }
             for event in events {
                 let snapshot = lively(random, chip, 0, 0);
@@ -325,9 +329,15 @@ fn every_kind_and_level(random: &mut Random) -> Vec<Case> {
 
 fn every_place(random: &mut Random) -> Vec<Case> {
     let mut cases = Vec::new();
-    for chip in [1, 2] {
-        for place in 0..=place_count(chip) {
-            let most = largest(chip, place);
+    for chip in CHIPS {
+        let count = place_count(chip);
+        // The place behind the last one is outside the chip.
+        for place in 0..=count {
+            let most = if place < count {
+                largest(chip, place)
+            } else {
+                255
+            };
             for value in [0, 1, most, most.saturating_add(1), 255] {
                 let snapshot = snapshot_bytes(chip, &[(place as u16, value)]);
                 let log = log_bytes(chip, &[save()]);
@@ -341,7 +351,7 @@ fn every_place(random: &mut Random) -> Vec<Case> {
 fn every_chip_byte(random: &mut Random) -> Vec<Case> {
     let mut cases = Vec::new();
     for chip in 0..=255 {
-        for other in [1, 2] {
+        for other in CHIPS {
             let log = log_bytes(other, &[save()]);
             cases.push(Case::exact(vec![chip, 0, 0], log, random));
             let log = log_bytes(chip, &[save()]);
@@ -353,14 +363,13 @@ fn every_chip_byte(random: &mut Random) -> Vec<Case> {
 
 /// Each of the four byte strings empty or not, as a null pointer or not.
 fn empty_strings(random: &mut Random) -> Vec<Case> {
+    let logs = CHIPS.into_iter().flat_map(|chip| {
+        let logs = [vec![], vec![save()], vec![read(0)]];
+        logs.map(|events| (chip, events))
+    });
     let mut cases = Vec::new();
-    for empty in 0..16 {
-        for (chip, events) in [
-            (1, vec![]),
-            (2, vec![]),
-            (1, vec![save()]),
-            (2, vec![read(0)]),
-        ] {
+    for (chip, events) in logs {
+        for empty in 0..16 {
             for null_if_empty in [false, true] {
                 let mut case = Case::exact(vec![chip, 0, 0], log_bytes(chip, &events), random);
                 case.null_if_empty = null_if_empty;

@@ -1,50 +1,68 @@
 //! Damage: one fault of each refusal number put into bytes that were accepted.
 //! Later damage may hide earlier damage, so the model says what is refused.
 
-use crate::case::{log_bytes, Case};
-use crate::generate::{largest, nonzero, place_count, snapshot_bytes};
-use crate::random::Random;
-use model::{kind, Event};
+use crate::case::Case;
+use kit::{highest_kind, largest, log_bytes, nonzero, place_count, save, snapshot_bytes};
+use kit::{used_bytes, Random, CHIPS};
+use model::{Event, Refusal, MOST_EVENTS};
 
-/// A snapshot with this fault (20 to 25).
-pub fn damaged_snapshot(random: &mut Random, chip: u8, number: u8) -> Vec<u8> {
+/// Headers of a snapshot and of a log.
+const SNAPSHOT_HEADER: usize = 3;
+const LOG_HEADER: usize = 5;
+
+/// The faults that a snapshot can have.
+pub const SNAPSHOT_FAULTS: [Refusal; 6] = [
+    Refusal::SnapshotShort,
+    Refusal::SnapshotChip,
+    Refusal::SnapshotCount,
+    Refusal::SnapshotLength,
+    Refusal::Place,
+    Refusal::Value,
+];
+
+/// The faults that a log can have.
+pub const LOG_FAULTS: [Refusal; 6] = [
+    Refusal::LogShort,
+    Refusal::LogChip,
+    Refusal::LogCount,
+    Refusal::LogLength,
+    Refusal::Kind,
+    Refusal::UnusedByte,
+];
+
+/// A snapshot with one of the `SNAPSHOT_FAULTS`.
+pub fn damaged_snapshot(random: &mut Random, chip: u8, fault: Refusal) -> Vec<u8> {
     let places = random.places(chip);
     let mut pairs = nonzero(&places);
     if pairs.is_empty() {
         pairs.push((7, 1));
     }
-    match number {
-        24 => damage_place(random, chip, &mut pairs),
-        25 => damage_value(random, chip, &mut pairs),
+    match fault {
+        Refusal::Place => damage_place(random, chip, &mut pairs),
+        Refusal::Value => damage_value(random, chip, &mut pairs),
         _ => {}
     }
     let mut bytes = snapshot_bytes(chip, &pairs);
-    match number {
-        20 => bytes.truncate(random.below(3)),
-        21 => bytes[0] = other_chip_byte(random),
-        22 => damage_snapshot_count(random, chip, &mut bytes),
-        23 => damage_length(random, &mut bytes, 3),
-        _ => {}
+    match fault {
+        Refusal::SnapshotShort => bytes.truncate(random.below(SNAPSHOT_HEADER)),
+        Refusal::SnapshotChip => bytes[0] = random.chip_not_built(),
+        Refusal::SnapshotCount => damage_snapshot_count(random, chip, &mut bytes),
+        Refusal::SnapshotLength => damage_length(random, &mut bytes, SNAPSHOT_HEADER),
+        Refusal::Place | Refusal::Value => {}
+        _ => panic!("{fault:?} is no fault of a snapshot"),
     }
     bytes
 }
 
-fn other_chip_byte(random: &mut Random) -> u8 {
-    match random.below(4) {
-        0 => 0,
-        1 => 3,
-        2 => 255,
-        _ => 4 + random.up_to(251),
-    }
-}
-
-/// A count over the places, its length right or not.
+/// A count over the places of the chip, or of every chip, its length right or
+/// not.
 fn damage_snapshot_count(random: &mut Random, chip: u8, bytes: &mut Vec<u8>) {
     let places = place_count(chip) as u16;
-    let count = random.pick(&[places + 1, places + 2, 790, 1024, 0xFFFF]);
-    bytes[1..3].copy_from_slice(&count.to_le_bytes());
-    if count < 2000 && random.one_in(2) {
-        bytes.resize(3 + 3 * usize::from(count), 1);
+    let most = CHIPS.into_iter().map(place_count).max().unwrap_or(0) as u16;
+    let count = random.pick(&[places + 1, places + 2, most + 1, most.max(1023) + 1, 0xFFFF]);
+    bytes[1..SNAPSHOT_HEADER].copy_from_slice(&count.to_le_bytes());
+    if count < u16::MAX && random.one_in(2) {
+        bytes.resize(SNAPSHOT_HEADER + 3 * usize::from(count), 1);
     }
 }
 
@@ -68,7 +86,7 @@ fn damage_place(random: &mut Random, chip: u8, pairs: &mut [(u16, u8)]) {
         let before = pairs[index - 1].0;
         pairs[index].0 = before - random.below(usize::from(before).min(2) + 1) as u16;
     } else {
-        pairs[index].0 = random.pick(&[outside, outside + 1, 0x0400, 0xFFFF]);
+        pairs[index].0 = random.pick(&[outside, outside + 1, outside.max(0x0400), 0xFFFF]);
     }
 }
 
@@ -83,72 +101,80 @@ fn damage_value(random: &mut Random, chip: u8, pairs: &mut [(u16, u8)]) {
     }
 }
 
-/// A log with this fault (10 to 15).
-pub fn damaged_log(random: &mut Random, chip: u8, number: u8) -> Vec<u8> {
+/// A log with one of the `LOG_FAULTS`.
+pub fn damaged_log(random: &mut Random, chip: u8, fault: Refusal) -> Vec<u8> {
     let count = 1 + random.below(12);
     let mut events = random.events(chip, count);
-    match number {
-        14 => damage_kind(random, &mut events),
-        15 => damage_operand(random, chip, &mut events),
+    match fault {
+        Refusal::Kind => damage_kind(random, chip, &mut events),
+        Refusal::UnusedByte => damage_operand(random, chip, &mut events),
         _ => {}
     }
     let mut bytes = log_bytes(chip, &events);
-    match number {
-        10 => bytes.truncate(random.below(5)),
-        11 => bytes[0] = other_chip_byte(random),
-        12 => damage_log_count(random, &mut bytes),
-        13 => damage_length(random, &mut bytes, 5),
-        _ => {}
+    match fault {
+        Refusal::LogShort => bytes.truncate(random.below(LOG_HEADER)),
+        Refusal::LogChip => bytes[0] = random.chip_not_built(),
+        Refusal::LogCount => damage_log_count(random, &mut bytes),
+        Refusal::LogLength => damage_length(random, &mut bytes, LOG_HEADER),
+        Refusal::Kind | Refusal::UnusedByte => {}
+        _ => panic!("{fault:?} is no fault of a log"),
     }
     bytes
 }
 
 /// A count over the limit, its length right or not.
 fn damage_log_count(random: &mut Random, bytes: &mut Vec<u8>) {
-    let count = random.pick(&[3001u32, 3002, 4096, 0x1_0001, 0x0100_0001, u32::MAX]);
-    bytes[1..5].copy_from_slice(&count.to_le_bytes());
-    if count < 5000 && random.one_in(4) {
-        bytes.resize(5 + 9 * count as usize, 0);
+    let most = MOST_EVENTS as u32;
+    // The larger ones have a low half that would be accepted.
+    let large = [0x1_0001, 0x0100_0001, u32::MAX];
+    let near = [most + 1, most + 2, most + 1096];
+    let is_near = random.one_in(2);
+    let count = random.pick(if is_near { &near } else { &large });
+    bytes[1..LOG_HEADER].copy_from_slice(&count.to_le_bytes());
+    if is_near && random.one_in(4) {
+        bytes.resize(LOG_HEADER + 9 * count as usize, 0);
     }
 }
 
-pub fn damage_kind(random: &mut Random, events: &mut [Event]) {
+/// A kind that the chip doesn't have.
+pub fn damage_kind(random: &mut Random, chip: u8, events: &mut [Event]) {
     let index = random.index(events.len());
-    events[index].kind = random.pick(&[5, 6, 7, 128, 255]);
+    let highest = highest_kind(chip);
+    events[index].kind = random.pick(&[highest + 1, highest + 2, highest + 3, 128, 255]);
 }
 
-/// One bit set in an operand byte that the event doesn't use.
+/// One bit set in an operand byte that the event doesn't use. One that uses
+/// all its bytes becomes a save.
 pub fn damage_operand(random: &mut Random, chip: u8, events: &mut [Event]) {
     let index = random.index(events.len());
-    let event = &mut events[index];
-    let unused: &[usize] = match (chip, event.kind) {
-        (_, kind::WRITE) => &[2, 3, 4, 5, 6, 7],
-        (_, kind::READ) => &[1, 2, 3, 4, 5, 6, 7],
-        (2, kind::TICK) => &[1, 2, 3, 4, 5, 6],
-        (_, kind::TICK) => {
-            // Chip 1 uses all 8, so this becomes a save.
-            event.kind = kind::SAVE;
-            event.operand = [0; 8];
-            &[0, 1, 2, 3, 4, 5, 6, 7]
-        }
-        _ => &[0, 1, 2, 3, 4, 5, 6, 7],
+    let unused = |event: &Event| -> Vec<usize> {
+        let used = used_bytes(chip, event.kind);
+        (0..8).filter(|byte| !used.contains(byte)).collect()
     };
-    event.operand[random.pick(unused)] |= 1 << random.below(8);
+    if unused(&events[index]).is_empty() {
+        events[index] = save();
+    }
+    let byte = random.pick(&unused(&events[index]));
+    events[index].operand[byte] |= 1 << random.below(8);
 }
 
 /// Several faults at once, in the snapshot, the log, their chips and buffers.
 pub fn several_faults(random: &mut Random) -> Case {
     let chip = random.chip();
-    let log_chip = if random.one_in(3) { 3 - chip } else { chip };
+    let log_chip = if random.one_in(3) {
+        random.other_chip(chip)
+    } else {
+        chip
+    };
     let snapshot = if random.one_in(3) {
-        let number = 20 + random.up_to(5);
-        damaged_snapshot(random, chip, number)
+        let fault = random.pick(&SNAPSHOT_FAULTS);
+        damaged_snapshot(random, chip, fault)
     } else {
         random.snapshot(chip)
     };
     let log = if random.one_in(2) {
-        let number = 10 + random.up_to(5);
-        damaged_log(random, log_chip, number)
+        let fault = random.pick(&LOG_FAULTS);
+        damaged_log(random, log_chip, fault)
     } else {
         let count = 1 + random.below(6);
         log_bytes(log_chip, &random.events(log_chip, count))
@@ -168,24 +194,30 @@ pub fn several_faults(random: &mut Random) -> Case {
 pub fn two_indexed_faults(random: &mut Random) -> Case {
     let chip = random.chip();
     if random.one_in(2) {
-        let places = random.places(chip);
-        let mut pairs = nonzero(&places);
-        pairs.splice(0..0, first_places(&pairs));
-        damage_value(random, chip, &mut pairs);
-        if !random.one_in(4) {
-            damage_place(random, chip, &mut pairs);
-        }
-        let snapshot = snapshot_bytes(chip, &pairs);
+        let snapshot = snapshot_with_two_faults(random, chip);
         return Case::exact(snapshot, log_bytes(chip, &[]), random);
     }
     let count = 1 + random.below(8);
     let mut events = random.events(chip, count);
     damage_operand(random, chip, &mut events);
     if !random.one_in(4) {
-        damage_kind(random, &mut events);
+        damage_kind(random, chip, &mut events);
     }
     let snapshot = random.snapshot(chip);
     Case::exact(snapshot, log_bytes(chip, &events), random)
+}
+
+/// A value and, mostly, a place at fault, each at the first, the last or any
+/// index, sometimes at one index.
+pub fn snapshot_with_two_faults(random: &mut Random, chip: u8) -> Vec<u8> {
+    let places = random.places(chip);
+    let mut pairs = nonzero(&places);
+    pairs.splice(0..0, first_places(&pairs));
+    damage_value(random, chip, &mut pairs);
+    if !random.one_in(4) {
+        damage_place(random, chip, &mut pairs);
+    }
+    snapshot_bytes(chip, &pairs)
 }
 
 /// Some places before the first one there is, so that there are always a few.

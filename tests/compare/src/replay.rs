@@ -1,13 +1,11 @@
 //! The printing program, byte for byte against the model's `printed`.
 
-use crate::case::{hexadecimal, log_bytes};
-use crate::damage::damaged_log;
-use crate::random::Random;
-use std::io::{self, Read, Write};
+use crate::case::Case;
+use crate::damage::{damaged_log, LOG_FAULTS};
+use crate::program::{printed_by, WHOLE};
+use kit::{hexadecimal, log_bytes, Random, CHIPS};
+use model::MOST_EVENTS;
 use std::path::Path;
-use std::process::{Command, Stdio};
-use std::thread;
-use std::time::Duration;
 
 /// A sort of input, and how many of them are tried.
 pub struct Input {
@@ -16,9 +14,6 @@ pub struct Input {
     /// The bytes, and the size of the pieces that they arrive in.
     pub make: fn(&mut Random, usize) -> (Vec<u8>, usize),
 }
-
-/// Pieces so large that the input arrives whole.
-const WHOLE: usize = usize::MAX;
 
 pub const INPUTS: &[Input] = &[
     Input {
@@ -47,7 +42,7 @@ fn accepted(random: &mut Random, number: usize) -> (Vec<u8>, usize) {
     let chip = random.chip();
     let count = match number {
         0 => 0,
-        1 | 2 => model::MOST_EVENTS,
+        1 | 2 => MOST_EVENTS,
         _ => random.below(200),
     };
     (log_bytes(chip, &random.events(chip, count)), WHOLE)
@@ -55,18 +50,18 @@ fn accepted(random: &mut Random, number: usize) -> (Vec<u8>, usize) {
 
 fn damaged(random: &mut Random, number: usize) -> (Vec<u8>, usize) {
     let chip = random.chip();
-    let refusal = 10 + (number % 6) as u8;
-    (damaged_log(random, chip, refusal), WHOLE)
+    let fault = LOG_FAULTS[number % LOG_FAULTS.len()];
+    (damaged_log(random, chip, fault), WHOLE)
 }
 
 /// A log or a header with much more behind it than belongs there.
 fn very_long(random: &mut Random, number: usize) -> (Vec<u8>, usize) {
     let chip = random.chip();
     let mut bytes = match number % 4 {
-        0 => log_bytes(chip, &random.events(chip, model::MOST_EVENTS)),
+        0 => log_bytes(chip, &random.events(chip, MOST_EVENTS)),
         1 => log_bytes(chip, &random.events(chip, 10)),
         2 => vec![chip, 0xFF, 0xFF, 0xFF, 0xFF],
-        _ => vec![random.pick(&[0, 3, 255]), 0, 0, 0, 0],
+        _ => vec![random.chip_not_built(), 0, 0, 0, 0],
     };
     let more = random.pick(&[1, 40_000, 70_000, 300_000, 2_000_000]);
     bytes.resize(bytes.len() + more, random.pick(&[0, 1]));
@@ -87,63 +82,18 @@ fn in_pieces(random: &mut Random, number: usize) -> (Vec<u8>, usize) {
 /// chip's, then logs with each refusal.
 pub fn samples(random: &mut Random) -> Vec<(String, Vec<u8>)> {
     let mut samples = Vec::new();
-    for chip in [1, 2] {
+    for chip in CHIPS {
         let events = random.events(chip, 1_000);
         samples.push((format!("accepted-chip-{chip}"), log_bytes(chip, &events)));
         samples.push((format!("empty-chip-{chip}"), log_bytes(chip, &[])));
     }
-    for refusal in 10..=15 {
-        for chip in [1, 2] {
-            let name = format!("refused-{refusal}-chip-{chip}");
-            samples.push((name, damaged_log(random, chip, refusal)));
+    for fault in LOG_FAULTS {
+        for chip in CHIPS {
+            let name = format!("refused-{}-chip-{chip}", fault.number());
+            samples.push((name, damaged_log(random, chip, fault)));
         }
     }
     samples
-}
-
-/// Writes the input in pieces. A program that has seen enough may stop
-/// reading, so a broken pipe is no fault.
-fn feed(mut pipe: impl Write, bytes: &[u8], piece: usize) -> io::Result<()> {
-    for (number, part) in bytes.chunks(piece.min(bytes.len().max(1))).enumerate() {
-        // Now and then the reader gets time to find the pipe empty.
-        if piece != WHOLE && number % 512 == 1 {
-            thread::sleep(Duration::from_millis(1));
-        }
-        match pipe.write_all(part) {
-            Err(fault) if fault.kind() == io::ErrorKind::BrokenPipe => return Ok(()),
-            other => other?,
-        }
-    }
-    Ok(())
-}
-
-/// What the program prints for this input.
-pub fn printed_by(program: &Path, bytes: &[u8], piece: usize) -> Result<Vec<u8>, String> {
-    let fault = |fault: io::Error| format!("{}: {fault}", program.display());
-    let mut child = Command::new(program)
-        .stdin(Stdio::piped())
-        .stdout(Stdio::piped())
-        .spawn()
-        .map_err(fault)?;
-    let stdin = child.stdin.take();
-    let input = bytes.to_vec();
-    let feeder = thread::spawn(move || match stdin {
-        Some(pipe) => feed(pipe, &input, piece),
-        None => Ok(()),
-    });
-    let mut output = Vec::new();
-    if let Some(mut pipe) = child.stdout.take() {
-        pipe.read_to_end(&mut output).map_err(fault)?;
-    }
-    let status = child.wait().map_err(fault)?;
-    match feeder.join() {
-        Ok(fed) => fed.map_err(fault)?,
-        Err(_) => return Err("the input could not be written".into()),
-    }
-    if status.code().is_none() {
-        return Err(format!("the program died: {status}"));
-    }
-    Ok(output)
 }
 
 /// What is wrong with the program's output, if anything.
@@ -171,9 +121,10 @@ fn first_difference(output: &[u8], expected: &[u8]) -> String {
     }
 }
 
-/// A shorter input that is still wrong, found by taking events away.
-pub fn shrunk(program: &Path, bytes: &[u8], piece: usize) -> Vec<u8> {
-    let case = crate::case::Case {
+/// A shorter input that is still wrong, found by taking events away, in at most
+/// `tries` runs, which are taken off.
+pub fn shrunk(program: &Path, bytes: &[u8], piece: usize, tries: &mut usize) -> Vec<u8> {
+    let case = Case {
         snapshot: vec![1, 0, 0],
         log: bytes.to_vec(),
         answers_len: 0,
@@ -181,8 +132,8 @@ pub fn shrunk(program: &Path, bytes: &[u8], piece: usize) -> Vec<u8> {
         layout: 0,
         null_if_empty: false,
     };
-    let mut fails = |case: &crate::case::Case| wrong(program, &case.log, piece).is_some();
-    crate::shrink::shrunk(&case, &mut 300, &mut fails).log
+    let mut fails = |case: &Case| wrong(program, &case.log, piece).is_some();
+    crate::shrink::shrunk(&case, tries, &mut fails).log
 }
 
 pub fn described(bytes: &[u8]) -> String {

@@ -1,47 +1,119 @@
-//! Counts for each class and each refusal, and the verdict.
+//! Counts for each class and for each refusal, and the verdict.
 
-use crate::library::Outcome;
-use model::{Refusal, ANSWER_BYTES};
+use model::Refusal;
+use std::collections::BTreeMap;
+
+/// What an outcome showed: the refusal's number, 0 if it was accepted; and the
+/// number that would have come but for it, 0 if none is counted.
+pub type Shown = (u64, u64);
+
+/// A line of the verdict: what must have been shown, and what it means.
+pub struct Row {
+    pub shown: Shown,
+    pub meaning: &'static str,
+}
+
+/// A refusal that must have been shown.
+pub const fn row(refusal: Refusal, meaning: &'static str) -> Row {
+    Row {
+        shown: (refusal as u64, 0),
+        meaning,
+    }
+}
+
+/// A refusal that must have been shown where another would have come next.
+pub const fn before(first: Refusal, next: Refusal) -> Row {
+    Row {
+        shown: (first as u64, next as u64),
+        meaning: "",
+    }
+}
+
+/// An accepted outcome that must have been shown.
+pub const ACCEPTED: Row = Row {
+    shown: (0, 0),
+    meaning: "accepted",
+};
+
+/// The outcomes that one sort of call must have shown.
+pub struct Table {
+    pub title: &'static str,
+    pub rows: &'static [Row],
+}
 
 /// Every refusal of document 01's table that a run can show: 1 to 5 in
 /// answers, the others returned.
-const REFUSALS: [(Refusal, &str); 20] = [
-    (Refusal::Selector, "in an answer: selector over 3"),
-    (Refusal::Address, "in an answer: overlay or control address"),
-    (Refusal::Direction, "in an answer: direction"),
-    (Refusal::TickBits, "in an answer: tick bits"),
-    (Refusal::Vertical, "in an answer: vertical period on chip 2"),
-    (Refusal::LogShort, "log under 5 bytes"),
-    (Refusal::LogChip, "log's chip"),
-    (Refusal::LogCount, "log's count"),
-    (Refusal::LogLength, "log's length"),
-    (Refusal::Kind, "kind over 4"),
-    (Refusal::UnusedByte, "unused operand byte"),
-    (Refusal::SnapshotShort, "snapshot under 3 bytes"),
-    (Refusal::SnapshotChip, "snapshot's chip"),
-    (Refusal::SnapshotCount, "snapshot's count"),
-    (Refusal::SnapshotLength, "snapshot's length"),
-    (Refusal::Place, "place"),
-    (Refusal::Value, "value"),
-    (Refusal::TwoChips, "snapshot and log for two chips"),
-    (Refusal::AnswerBuffer, "answer buffer"),
-    (Refusal::EndBuffer, "end buffer"),
-];
+pub static RUNS: Table = Table {
+    title: "runs",
+    rows: &[
+        ACCEPTED,
+        row(Refusal::Selector, "in an answer: selector over 3"),
+        row(Refusal::Address, "in an answer: overlay or control address"),
+        row(Refusal::Direction, "in an answer: direction"),
+        row(Refusal::TickBits, "in an answer: tick bits"),
+        row(
+            Refusal::Vertical,
+            "in an answer: vertical period on a chip without one",
+        ),
+        row(Refusal::LogShort, "log under 5 bytes"),
+        row(Refusal::LogChip, "log's chip"),
+        row(Refusal::LogCount, "log's count"),
+        row(Refusal::LogLength, "log's length"),
+        row(Refusal::Kind, "kind over the highest"),
+        row(Refusal::UnusedByte, "unused operand byte"),
+        row(Refusal::SnapshotShort, "snapshot under 3 bytes"),
+        row(Refusal::SnapshotChip, "snapshot's chip"),
+        row(Refusal::SnapshotCount, "snapshot's count"),
+        row(Refusal::SnapshotLength, "snapshot's length"),
+        row(Refusal::Place, "place"),
+        row(Refusal::Value, "value"),
+        row(Refusal::TwoChips, "snapshot and log for two chips"),
+        row(Refusal::AnswerBuffer, "answer buffer"),
+        row(Refusal::EndBuffer, "end buffer"),
+    ],
+};
 
-/// One class: how many cases were checked, and its failure, if any.
+/// One class: how many cases were checked, and what became of it.
 struct Line {
     name: &'static str,
     cases: usize,
     failed: bool,
+    left_out: bool,
+}
+
+/// What a failing case is an input of.
+#[derive(Clone, Copy, PartialEq, Eq, PartialOrd, Ord)]
+pub enum Subject {
+    /// The library.
+    Library,
+    /// The printing program.
+    Replay,
+    /// The program that plays calls on a state.
+    Calls,
+}
+
+/// A failing case.
+pub struct Failure {
+    /// What differs.
+    pub what: String,
+    /// The bytes of its inputs, or those that count.
+    pub size: usize,
+    /// The case as a person can replay it.
+    pub described: String,
+}
+
+/// How often each outcome of a sort of call was reached and agreed on.
+struct Tally {
+    table: &'static Table,
+    shown: BTreeMap<Shown, usize>,
 }
 
 #[derive(Default)]
 pub struct Report {
     lines: Vec<Line>,
-    /// The smallest failing case: its size, its class and its description.
-    smallest: Option<(usize, &'static str, String)>,
-    /// How often each number was reached and agreed on; 0 is an accepted run.
-    refusals: [usize; 32],
+    tallies: Vec<Tally>,
+    /// The smallest failing case of each subject, and its class.
+    smallest: BTreeMap<Subject, (&'static str, Failure)>,
 }
 
 impl Report {
@@ -52,15 +124,36 @@ impl Report {
                 name,
                 cases: 0,
                 failed: false,
+                left_out: false,
             });
             self.lines.len() - 1
         });
         &mut self.lines[index]
     }
 
+    fn tally(&mut self, table: &'static Table) -> &mut Tally {
+        let known = self
+            .tallies
+            .iter()
+            .position(|t| t.table.title == table.title);
+        let index = known.unwrap_or_else(|| {
+            self.tallies.push(Tally {
+                table,
+                shown: BTreeMap::new(),
+            });
+            self.tallies.len() - 1
+        });
+        &mut self.tallies[index]
+    }
+
     /// Makes sure that a class that is never reached is counted as failed.
     pub fn expect(&mut self, name: &'static str) {
         self.line(name);
+    }
+
+    /// Makes sure that an outcome that is never reached is counted as failed.
+    pub fn expect_outcomes(&mut self, table: &'static Table) {
+        self.tally(table);
     }
 
     pub fn checked(&mut self, name: &'static str) {
@@ -71,59 +164,101 @@ impl Report {
         self.line(name).failed
     }
 
-    /// Notes a class as failed; the smallest failing case is printed at the
-    /// end, its size being the bytes of its inputs.
-    pub fn failed(&mut self, name: &'static str, what: &str, size: usize, described: String) {
-        self.line(name).failed = true;
-        println!("FAILED {name}: {what}");
-        if self.smallest.as_ref().is_none_or(|best| size < best.0) {
-            self.smallest = Some((size, name, format!("  {what}\n{described}")));
+    /// Notes a class as left out: it is named and not judged.
+    pub fn left_out(&mut self, name: &'static str) {
+        self.line(name).left_out = true;
+    }
+
+    /// Notes a class as failed without a case of its own.
+    pub fn impossible(&mut self, name: &'static str, why: &str) {
+        let line = self.line(name);
+        if !line.failed {
+            line.failed = true;
+            println!("FAILED {name}: {why}");
         }
     }
 
-    /// Counts the refusals that an agreed outcome shows.
-    pub fn count_refusals(&mut self, outcome: &Outcome, events: usize) {
-        let refusal = (outcome.result >> 16) as usize;
-        self.refusals[refusal.min(31)] += 1;
-        if refusal == 0 {
-            for answer in outcome.answers.chunks(ANSWER_BYTES).take(events) {
-                if answer[0] != 0 {
-                    self.refusals[usize::from(answer[0].min(31))] += 1;
-                }
-            }
+    /// Notes a class as failed; the smallest failing case of each
+    /// subject is printed at the end.
+    pub fn failed(&mut self, name: &'static str, subject: Subject, failure: Failure) {
+        self.line(name).failed = true;
+        println!("FAILED {name}: {}", failure.what);
+        let best = self.smallest.get(&subject);
+        if best.is_none_or(|(_, best)| failure.size < best.size) {
+            self.smallest.insert(subject, (name, failure));
         }
+    }
+
+    /// Counts what an agreed outcome showed.
+    pub fn count(&mut self, table: &'static Table, shown: Shown) {
+        *self.tally(table).shown.entry(shown).or_insert(0) += 1;
     }
 
     /// Prints the counts, the smallest failing case and the verdict; true if
     /// nothing failed.
     pub fn verdict(&self) -> bool {
-        let (mut passed, mut failed) = (0, 0);
-        let mut judge = |good: bool| {
-            *(if good { &mut passed } else { &mut failed }) += 1;
-            if good {
-                "ok    "
-            } else {
-                "FAILED"
-            }
-        };
+        let mut judge = Judge::default();
         println!("          cases  class");
         for line in &self.lines {
-            let verdict = judge(!line.failed && line.cases > 0);
-            println!("{verdict} {:>8}  {}", line.cases, line.name);
+            let verdict = match line.left_out {
+                true => "left out",
+                false => judge.say(!line.failed && line.cases > 0),
+            };
+            println!("{verdict:<8} {:>6}  {}", line.cases, line.name);
         }
-        println!("        reached  refusal");
-        let accepted = self.refusals[0];
-        println!("{} {accepted:>8}   0 accepted", judge(accepted > 0));
-        for (refusal, meaning) in REFUSALS {
-            let number = refusal.number();
-            let reached = self.refusals[usize::from(number)];
-            let verdict = judge(reached > 0);
-            println!("{verdict} {reached:>8}  {number:>2} {meaning}");
+        for tally in &self.tallies {
+            tally.judge(&mut judge);
         }
-        if let Some((_, name, described)) = &self.smallest {
-            println!("the smallest case found, in the class '{name}':\n{described}");
+        for (
+            name,
+            Failure {
+                what, described, ..
+            },
+        ) in self.smallest.values()
+        {
+            println!("the smallest case found, in the class '{name}':\n  {what}\n{described}");
         }
-        println!("{passed} passed, {failed} failed");
-        failed == 0
+        println!("{} passed, {} failed", judge.passed, judge.failed);
+        judge.failed == 0 && judge.passed > 0
+    }
+}
+
+#[derive(Default)]
+struct Judge {
+    passed: usize,
+    failed: usize,
+}
+
+impl Judge {
+    fn say(&mut self, good: bool) -> &'static str {
+        if good {
+            self.passed += 1;
+            "ok"
+        } else {
+            self.failed += 1;
+            "FAILED"
+        }
+    }
+}
+
+impl Tally {
+    /// Every row must have been reached, and nothing but the rows.
+    fn judge(&self, judge: &mut Judge) {
+        println!("        reached  refusal, {}", self.table.title);
+        for row in self.table.rows {
+            let reached = self.shown.get(&row.shown).copied().unwrap_or(0);
+            let verdict = judge.say(reached > 0);
+            let number = row.shown.0;
+            let meaning = match row.shown.1 {
+                0 => row.meaning.to_string(),
+                next => format!("before {next}"),
+            };
+            println!("{verdict:<8} {reached:>6}  {number:>2} {meaning}");
+        }
+        let listed = |shown: &Shown| self.table.rows.iter().any(|row| row.shown == *shown);
+        for ((number, next), reached) in self.shown.iter().filter(|(shown, _)| !listed(shown)) {
+            let verdict = judge.say(false);
+            println!("{verdict:<8} {reached:>6}  {number:>2} before {next} isn't listed");
+        }
     }
 }

@@ -1,9 +1,8 @@
 //! The data sheets' tables and document 01's marked lines as examples with the
 //! answers and end snapshots worked out by hand from the papers.
 
-use crate::case::{log_bytes, Case};
-use crate::generate::{read, save, snapshot_bytes, tick, vertical, write};
-use crate::random::Random;
+use crate::case::Case;
+use kit::{log_bytes, read, save, snapshot_bytes, tick, vertical, write, Random};
 use model::{Event, ANSWER_BYTES};
 
 /// Values of places; places not named are 0.
@@ -91,14 +90,14 @@ impl Example {
             answers.extend(expected);
             answers.resize(answers.len().next_multiple_of(ANSWER_BYTES), 0);
         }
-        if let Some(at) = (0..answers.len()).find(|&at| outcome.answers[at] != answers[at]) {
+        if let Some(at) = (0..answers.len()).find(|&at| outcome.answers()[at] != answers[at]) {
             let (event, byte) = (at / ANSWER_BYTES, at % ANSWER_BYTES);
-            let (found, wanted) = (outcome.answers[at], answers[at]);
+            let (found, wanted) = (outcome.answers()[at], answers[at]);
             return Some(format!(
                 "answer {event}, byte {byte} is {found:02x}, not {wanted:02x}"
             ));
         }
-        (outcome.end[..end.len()] != end).then(|| "another end snapshot".into())
+        (outcome.end()[..end.len()] != end).then(|| "another end snapshot".into())
     }
 }
 
@@ -464,13 +463,12 @@ fn overlay_enables() -> Vec<Example> {
 fn numbered_chip(chip: u8, more: &[(u16, u8)]) -> Example {
     let mut start = Vec::new();
     for entry in 0..256u16 {
-        // Chip 2 has 6 bits: two components together tell entries apart.
-        let red = if chip == 1 {
-            entry as u8
-        } else {
-            entry as u8 >> 4
+        let (red, green) = match chip {
+            1 => (entry as u8, 1),
+            // 6 bits: two components together tell entries apart.
+            2 => (entry as u8 >> 4, entry as u8 & 15),
+            _ => panic!("chip {chip} has no numbered entries"),
         };
-        let green = if chip == 1 { 1 } else { entry as u8 & 15 };
         start.extend([(3 * entry, red), (3 * entry + 1, green), (3 * entry + 2, 2)]);
     }
     start.extend(more);

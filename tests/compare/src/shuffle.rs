@@ -7,10 +7,10 @@
 //! The library's own answers are compared with each other. The model only says
 //! which accesses paint, for that is a matter of the log and not of its run.
 
-use crate::case::{hexadecimal, log_bytes, Case};
-use crate::generate::save;
-use crate::random::Random;
-use model::{kind, painting_accesses, Event, ANSWER_BYTES};
+use crate::case::Case;
+use kit::{before_painting, free_shuffle, hexadecimal, log_bytes, painting_shuffle};
+use kit::{is_access, is_display, is_save, is_tick, only, save, with_saves, Random, Sort};
+use model::{painting_accesses, Event, ANSWER_BYTES, END_BUFFER_BYTES, MOST_EVENTS};
 
 /// A sort of pair of logs.
 pub struct Shuffle {
@@ -81,80 +81,14 @@ pub struct Held {
     pub ticks_differ: bool,
 }
 
-fn is_access(event: &Event) -> bool {
-    event.kind <= kind::READ
-}
-
-fn is_display(event: &Event) -> bool {
-    event.kind == kind::TICK || event.kind == kind::VERTICAL
-}
-
-fn is_tick(event: &Event) -> bool {
-    event.kind == kind::TICK
-}
-
-fn only(events: &[Event], sort: fn(&Event) -> bool) -> Vec<Event> {
-    events.iter().copied().filter(sort).collect()
-}
-
-/// Both lists riffled together, each keeping its order.
-fn riffle(random: &mut Random, accesses: &[Event], displays: &[Event]) -> Vec<Event> {
-    let (mut a, mut d) = (accesses.iter(), displays.iter());
-    let mut riffled = Vec::new();
-    while a.len() + d.len() > 0 {
-        let from_a = random.below(a.len() + d.len()) < a.len();
-        let next = if from_a { a.next() } else { d.next() };
-        riffled.extend(next.copied());
-    }
-    riffled
-}
-
-fn random_log(random: &mut Random, chip: u8, count: usize) -> Vec<Event> {
-    let mut accesses = Vec::new();
-    while 3 * accesses.len() < 2 * count {
-        accesses.extend(random.burst(chip));
-    }
-    accesses.truncate(2 * count / 3);
-    let displays: Vec<Event> = (accesses.len()..count)
-        .map(|_| random.display(chip))
-        .collect();
-    riffle(random, &accesses, &displays)
-}
-
-fn free_shuffle(random: &mut Random, events: &[Event]) -> Vec<Event> {
-    riffle(random, &only(events, is_access), &only(events, is_display))
-}
-
-/// Each stretch between painting accesses is riffled by itself.
-fn painting_shuffle(random: &mut Random, events: &[Event], painting: &[usize]) -> Vec<Event> {
-    let mut shuffled = Vec::new();
-    let mut start = 0;
-    for &stop in painting {
-        shuffled.extend(free_shuffle(random, &events[start..stop]));
-        shuffled.push(events[stop]);
-        start = stop + 1;
-    }
-    shuffled.extend(free_shuffle(random, &events[start..]));
-    shuffled
-}
-
-/// Saves put anywhere, any number of them.
-fn with_saves(random: &mut Random, events: &[Event]) -> Vec<Event> {
-    let often = random.pick(&[2, 4, 20]);
-    let mut saved = Vec::new();
-    for &event in events {
-        while random.one_in(often) {
-            saved.push(save());
-        }
-        saved.push(event);
-    }
-    saved
-}
+/// How often saves are put between events: many, or one now and then.
+const OFTEN: [usize; 3] = [2, 4, 20];
 
 fn start(random: &mut Random, chip: u8) -> (Vec<u8>, Vec<Event>) {
     let snapshot = random.snapshot(chip);
     let count = random.pick(&[6, 20, 45]);
-    (snapshot, random_log(random, chip, count))
+    let events = random.events_without_saves(chip, count);
+    (snapshot, events)
 }
 
 fn free(random: &mut Random, chip: u8) -> Pair {
@@ -186,7 +120,8 @@ fn saves_moved(random: &mut Random) -> Pair {
 fn saves_added(random: &mut Random) -> Pair {
     let chip = random.chip();
     let (snapshot, one) = start(random, chip);
-    let mut two = with_saves(random, &one);
+    let often = random.pick(&OFTEN);
+    let mut two = with_saves(random, &one, often);
     two.push(save());
     pair(random, chip, snapshot, one, two)
 }
@@ -194,7 +129,8 @@ fn saves_added(random: &mut Random) -> Pair {
 fn saves_removed(random: &mut Random) -> Pair {
     let chip = random.chip();
     let (snapshot, events) = start(random, chip);
-    let mut one = with_saves(random, &events);
+    let often = random.pick(&OFTEN);
+    let mut one = with_saves(random, &events, often);
     one.insert(0, save());
     pair(random, chip, snapshot, one, events)
 }
@@ -203,10 +139,10 @@ fn saves_removed(random: &mut Random) -> Pair {
 fn near_the_limit(random: &mut Random) -> Pair {
     let chip = random.chip();
     let snapshot = random.snapshot(chip);
-    let mut one = random_log(random, chip, 2900);
+    let mut one = random.events_without_saves(chip, MOST_EVENTS - 100);
     let painting = painting(chip, &snapshot, &one);
     let two = painting_shuffle(random, &one, &painting);
-    while one.len() < model::MOST_EVENTS {
+    while one.len() < MOST_EVENTS {
         one.insert(random.below(one.len() + 1), save());
     }
     pair(random, chip, snapshot, one, two)
@@ -233,14 +169,6 @@ fn painting(chip: u8, snapshot: &[u8], events: &[Event]) -> Vec<usize> {
     painting_accesses(snapshot, &log_bytes(chip, events)).unwrap_or_default()
 }
 
-/// For each painting access, the display events before it.
-fn displays_before(events: &[Event], painting: &[usize]) -> Vec<usize> {
-    painting
-        .iter()
-        .map(|&index| events[..index].iter().filter(|e| is_display(e)).count())
-        .collect()
-}
-
 /// One of the two runs, by the library.
 struct Played {
     accesses: Vec<u8>,
@@ -254,7 +182,7 @@ impl Pair {
             snapshot: self.snapshot.clone(),
             log: log_bytes(self.chip, events),
             answers_len: ANSWER_BYTES * events.len(),
-            end_len: model::END_BUFFER_BYTES,
+            end_len: END_BUFFER_BYTES,
             layout: self.layout,
             null_if_empty: false,
         }
@@ -265,16 +193,16 @@ impl Pair {
         if outcome.result >> 16 != 0 {
             return Err(format!("refused with {}", outcome.result >> 16));
         }
-        let answers_to = |sort: fn(&Event) -> bool| -> Vec<u8> {
-            let answers = outcome.answers.chunks_exact(ANSWER_BYTES);
+        let answers_to = |sort: Sort| -> Vec<u8> {
+            let answers = outcome.answers().chunks_exact(ANSWER_BYTES);
             let wanted = events.iter().zip(answers).filter(|(event, _)| sort(event));
             wanted.flat_map(|(_, answer)| answer.to_vec()).collect()
         };
-        let length = (outcome.result as usize).min(outcome.end.len());
+        let length = (outcome.result as usize).min(outcome.end().len());
         Ok(Played {
             accesses: answers_to(is_access),
             ticks: answers_to(is_tick),
-            end: outcome.end[..length].to_vec(),
+            end: outcome.end()[..length].to_vec(),
         })
     }
 
@@ -288,7 +216,8 @@ impl Pair {
             return Err("the end snapshots differ".into());
         }
         let displays = |events: &[Event]| {
-            displays_before(events, &painting(self.chip, &self.snapshot, events))
+            let painting = painting(self.chip, &self.snapshot, events);
+            before_painting(events, &painting, is_display)
         };
         let painting_kept = displays(&self.one) == displays(&self.two);
         let ticks_differ = one.ticks != two.ticks;
@@ -305,7 +234,7 @@ impl Pair {
     /// by one, each try being taken off `tries`.
     pub fn shrunk(&self, tries: &mut usize) -> Pair {
         let mut best = self.clone();
-        for sort in [is_access as fn(&Event) -> bool, is_display, is_save] {
+        for sort in [is_access as Sort, is_display, is_save] {
             let mut number = only(&best.one, sort).len().max(only(&best.two, sort).len());
             while number > 0 && *tries > 0 {
                 number -= 1;
@@ -336,12 +265,8 @@ impl Pair {
     }
 }
 
-fn is_save(event: &Event) -> bool {
-    event.kind == kind::SAVE
-}
-
 /// Takes the event with this number among its sort out of a log.
-fn remove(events: &mut Vec<Event>, sort: fn(&Event) -> bool, number: usize) {
+fn remove(events: &mut Vec<Event>, sort: Sort, number: usize) {
     let mut indices = (0..events.len()).filter(|&index| sort(&events[index]));
     if let Some(index) = indices.nth(number) {
         events.remove(index);

@@ -1,13 +1,13 @@
 //! How long the library and the second model take for the same runs. No test
 //! goes by it.
 
-use crate::case::log_bytes;
 use crate::library;
-use crate::random::Random;
+use kit::{log_bytes, Random, CHIPS};
+use model::{ANSWER_BYTES, END_BUFFER_BYTES, MOST_EVENTS};
 use std::time::{Duration, Instant};
 
 const LOGS: usize = 40;
-const EVENTS: usize = 3_000;
+const EVENTS: usize = MOST_EVENTS;
 const REPEATS: usize = 5;
 
 fn smallest(mut run: impl FnMut()) -> Duration {
@@ -27,7 +27,7 @@ fn per_event(time: Duration) -> f64 {
 /// Prints the time of each chip's logs, one run after the other.
 pub fn report(seed: u64) {
     println!("{LOGS} logs of {EVENTS} events of every kind, the smallest of {REPEATS} repeats; the model is built for release, with overflow checks");
-    for chip in [1, 2] {
+    for chip in CHIPS {
         let mut random = Random::seeded(seed ^ u64::from(chip));
         let runs: Vec<(Vec<u8>, Vec<u8>)> = (0..LOGS)
             .map(|_| {
@@ -36,8 +36,8 @@ pub fn report(seed: u64) {
                 (snapshot, log_bytes(chip, &events))
             })
             .collect();
-        let mut answers = vec![0; 18 * EVENTS];
-        let mut end = vec![0; 2_370];
+        let mut answers = vec![0; ANSWER_BYTES * EVENTS];
+        let mut end = vec![0; END_BUFFER_BYTES];
         let model = smallest(|| {
             for (snapshot, log) in &runs {
                 model::run(snapshot, log, &mut answers, &mut end);
@@ -45,7 +45,7 @@ pub fn report(seed: u64) {
         });
         let called = smallest(|| {
             for (snapshot, log) in &runs {
-                library::call(snapshot, log, &mut answers, &mut end);
+                library::bare_run(snapshot, log, &mut answers, &mut end);
             }
         });
         println!(

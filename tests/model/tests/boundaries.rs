@@ -1,7 +1,8 @@
 //! Boundary values: addresses 3, 4, 7, 8 and FFh, position 2, count 0 and the
 //! limit, lengths one off.
 
-use crate::common::{c, log_bytes, p1, p2, play, rs, vertical, write, Bench};
+use crate::common::{play, Bench};
+use kit::{c, log_bytes, p1, p2, read, rs, vertical, write};
 use model::{read_log, run};
 
 #[test]
@@ -42,7 +43,7 @@ fn chip_1_control_accesses_at_the_edge_addresses() {
     let cases = [
         (0x03, 2, None),
         (0x04, 0, Some(p1::READ_MASK)),
-        (0x07, 0, Some(787)),
+        (0x07, 0, Some(p1::TEST)),
         (0x08, 2, None),
         (0xFF, 2, None),
     ];
@@ -195,7 +196,7 @@ fn a_log_has_5_and_9n_bytes_and_no_other_length() {
 fn each_answer_stands_at_18_times_its_index() {
     // Sixty address writes and reads: answer 2i + 1 holds the byte i.
     let events: Vec<_> = (0..60)
-        .flat_map(|i| [write(c::ADDRESS, i), crate::common::read(c::ADDRESS)])
+        .flat_map(|i| [write(c::ADDRESS, i), read(c::ADDRESS)])
         .collect();
     let mut answers = vec![0xEE; 18 * 120];
     let mut end = vec![0xEE; 2370];

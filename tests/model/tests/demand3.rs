@@ -4,10 +4,10 @@
 //! the same snapshot. If every painting access also has the same display
 //! events before it, every tick gets the same answer too.
 
-use crate::common::{
-    is_access, is_display, log_bytes, no_such_chip, p2, play, save_event, snapshot_bytes, tick,
-    vertical, write, Played, Random,
-};
+use crate::common::{play, Played};
+use kit::{before_painting, free_shuffle, painting_shuffle, with_saves, Random, Sort};
+use kit::{is_access, is_display, is_save, is_tick, log_bytes, only, p2, snapshot_bytes};
+use kit::{save as save_event, tick, vertical, write};
 use model::{kind, painting_accesses, save, Answer, Event};
 use std::collections::BTreeMap;
 
@@ -18,6 +18,7 @@ struct Census {
     pairs: usize,
     moved: usize,
     saves_differ: usize,
+    /// Answers with each refusal.
     refused: BTreeMap<u8, usize>,
     painting: usize,
     ticks_with_colour: usize,
@@ -37,80 +38,7 @@ impl Census {
     }
 }
 
-/// A log of `count` accesses and display events, two accesses to each display
-/// event, in a random order.
-fn random_events(random: &mut Random, chip: u8, count: usize) -> Vec<Event> {
-    let mut accesses = Vec::new();
-    while 3 * accesses.len() < 2 * count {
-        accesses.extend(random.burst(chip));
-    }
-    accesses.truncate(2 * count / 3);
-    let displays: Vec<Event> = (accesses.len()..count)
-        .map(|_| random.display(chip))
-        .collect();
-    riffle(random, &accesses, &displays)
-}
-
-/// Both lists riffled together again, each keeping its order.
-fn riffle(random: &mut Random, accesses: &[Event], displays: &[Event]) -> Vec<Event> {
-    let mut riffled = Vec::new();
-    let (mut a, mut d) = (0, 0);
-    while a < accesses.len() || d < displays.len() {
-        let left = (accesses.len() - a) + (displays.len() - d);
-        if random.below(left) < accesses.len() - a {
-            riffled.push(accesses[a]);
-            a += 1;
-        } else {
-            riffled.push(displays[d]);
-            d += 1;
-        }
-    }
-    riffled
-}
-
-fn split(events: &[Event]) -> (Vec<Event>, Vec<Event>) {
-    let accesses = events.iter().copied().filter(is_access).collect();
-    let displays = events.iter().copied().filter(is_display).collect();
-    (accesses, displays)
-}
-
-/// Any shuffle that keeps both lists.
-fn free_shuffle(random: &mut Random, events: &[Event]) -> Vec<Event> {
-    let (accesses, displays) = split(events);
-    riffle(random, &accesses, &displays)
-}
-
-/// A shuffle that also keeps the display events before every painting access:
-/// each stretch between painting accesses is riffled by itself.
-fn painting_shuffle(random: &mut Random, events: &[Event], painting: &[usize]) -> Vec<Event> {
-    let mut shuffled = Vec::new();
-    let mut start = 0;
-    for &stop in painting {
-        shuffled.extend(free_shuffle(random, &events[start..stop]));
-        shuffled.push(events[stop]);
-        start = stop + 1;
-    }
-    shuffled.extend(free_shuffle(random, &events[start..]));
-    shuffled
-}
-
-/// Saves put anywhere, any number of them.
-fn with_saves(random: &mut Random, events: &[Event]) -> Vec<Event> {
-    let often = random.pick(&[2, 5, 1000]);
-    let mut saved = Vec::new();
-    for &event in events {
-        while random.one_in(often) {
-            saved.push(save_event());
-        }
-        saved.push(event);
-    }
-    while random.one_in(often) {
-        saved.push(save_event());
-    }
-    saved
-}
-
-fn answers_of(events: &[Event], played: &Played, wanted: fn(&Event) -> bool) -> Vec<Answer> {
+fn answers_of(events: &[Event], played: &Played, wanted: Sort) -> Vec<Answer> {
     let pairs = events.iter().zip(&played.answers);
     pairs
         .filter(|(event, _)| wanted(event))
@@ -118,25 +46,10 @@ fn answers_of(events: &[Event], played: &Played, wanted: fn(&Event) -> bool) -> 
         .collect()
 }
 
-fn is_tick(event: &Event) -> bool {
-    event.kind == kind::TICK
-}
-
-/// For each painting access, the events of one sort that stand before it.
-fn before_painting(events: &[Event], painting: &[usize], sort: fn(&Event) -> bool) -> Vec<usize> {
-    let mut counts = Vec::new();
-    let (mut start, mut count) = (0, 0);
-    for &index in painting {
-        count += events[start..index].iter().filter(|e| sort(e)).count();
-        counts.push(count);
-        start = index;
-    }
-    counts
-}
-
 /// One pair of logs: what demand 3 says about them must hold.
 fn check_pair(census: &mut Census, chip: u8, snapshot: &[u8], one: &[Event], two: &[Event]) {
-    assert_eq!(split(one), split(two));
+    assert_eq!(only(one, is_access), only(two, is_access));
+    assert_eq!(only(one, is_display), only(two, is_display));
     let played_one = play(chip, snapshot, one);
     let played_two = play(chip, snapshot, two);
     assert_eq!(
@@ -161,10 +74,7 @@ fn check_pair(census: &mut Census, chip: u8, snapshot: &[u8], one: &[Event], two
         census.pairs_breaking_the_condition += 1;
     }
 
-    let plain = |events: &[Event]| -> Vec<Event> {
-        let kept = events.iter().copied();
-        kept.filter(|event| event.kind != kind::SAVE).collect()
-    };
+    let plain = |events| only(events, |event| !is_save(event));
     census.pairs += 1;
     census.moved += usize::from(plain(one) != plain(two));
     census.saves_differ += usize::from(one.len() != two.len());
@@ -180,15 +90,18 @@ fn census_of(seed: u64, chip: u8, pairs: usize, count: usize, condition: bool) -
     let mut census = Census::default();
     for _ in 0..pairs {
         let snapshot = save(&random.state(chip)).unwrap();
-        let events = random_events(&mut random, chip, count);
+        let events = random.events_without_saves(chip, count);
         let shuffled = if condition {
             let painting = painting_accesses(&snapshot, &log_bytes(chip, &events)).unwrap();
             painting_shuffle(&mut random, &events, &painting)
         } else {
             free_shuffle(&mut random, &events)
         };
-        let one = with_saves(&mut random, &events);
-        let two = with_saves(&mut random, &shuffled);
+        let mut saved = |events| {
+            let often = random.pick(&[2, 5, 1000]);
+            with_saves(&mut random, events, often)
+        };
+        let (one, two) = (saved(&events), saved(&shuffled));
         check_pair(&mut census, chip, &snapshot, &one, &two);
     }
     census
@@ -204,31 +117,29 @@ fn assert_well_mixed(census: &Census, chip: u8) {
     let possible: &[u8] = match chip {
         1 => &[1, 2, 4],
         2 => &[1, 3, 4, 5],
-        _ => no_such_chip(chip),
+        _ => panic!("the refusals of chip {chip} aren't listed"),
     };
-    let met: Vec<u8> = census.refused.keys().copied().collect();
-    assert_eq!(met, possible);
-    let mut times = census.refused.values();
-    assert!(times.all(|&times| times > census.pairs / 4));
+    assert!(census.refused.keys().eq(possible));
+    assert!(census.refused.values().all(|&n| n > census.pairs / 4));
 }
 
 #[test]
 fn free_shuffles_on_chip_1_keep_accesses_and_end() {
-    let census = census_of(0xD3_0001, 1, 300, 60, false);
+    let census = census_of(0xD3_0001, 1, 300, 75, false);
     assert_eq!(census.pairs, 300);
     assert_well_mixed(&census, 1);
 }
 
 #[test]
 fn free_shuffles_on_chip_2_keep_accesses_and_end() {
-    let census = census_of(0xD3_0002, 2, 300, 60, false);
+    let census = census_of(0xD3_0002, 2, 300, 75, false);
     assert_eq!(census.pairs, 300);
     assert_well_mixed(&census, 2);
 }
 
 #[test]
 fn painting_shuffles_on_chip_1_keep_ticks_too() {
-    let census = census_of(0xD3_0003, 1, 300, 60, true);
+    let census = census_of(0xD3_0003, 1, 300, 75, true);
     assert_eq!(census.pairs_breaking_the_condition, 0);
     assert_eq!(census.pairs_with_other_ticks, 0);
     assert_well_mixed(&census, 1);
@@ -236,7 +147,7 @@ fn painting_shuffles_on_chip_1_keep_ticks_too() {
 
 #[test]
 fn painting_shuffles_on_chip_2_keep_ticks_too() {
-    let census = census_of(0xD3_0004, 2, 300, 60, true);
+    let census = census_of(0xD3_0004, 2, 300, 75, true);
     assert_eq!(census.pairs_breaking_the_condition, 0);
     assert_eq!(census.pairs_with_other_ticks, 0);
     assert_well_mixed(&census, 2);
@@ -245,7 +156,7 @@ fn painting_shuffles_on_chip_2_keep_ticks_too() {
 #[test]
 fn the_painting_condition_matters() {
     for (seed, chip) in [(0xD3_0005, 1), (0xD3_0006, 2)] {
-        let census = census_of(seed, chip, 100, 60, false);
+        let census = census_of(seed, chip, 100, 75, false);
         // Only pairs that break the condition can have other ticks, and many
         // of them do (check_pair has compared the rest).
         assert!(census.pairs_breaking_the_condition > 75);
@@ -261,7 +172,7 @@ fn logs_near_the_limit_shuffle_alike() {
         let mut census = Census::default();
         for _ in 0..3 {
             let snapshot = save(&random.state(chip)).unwrap();
-            let mut events = random_events(&mut random, chip, 2500);
+            let mut events = random.events_without_saves(chip, 2500);
             let painting = painting_accesses(&snapshot, &log_bytes(chip, &events)).unwrap();
             let mut kept = painting_shuffle(&mut random, &events, &painting);
             let free = free_shuffle(&mut random, &events);

@@ -1,7 +1,8 @@
 //! Refusals of an event called by itself: 21, 25, 14, 15, then 1 to 5, each
 //! alone and with others present. A refused event hands back the state it got.
 
-use crate::common::{chips_not_built, largest, no_such_chip, p1, p2, place_count, Bench};
+use crate::common::Bench;
+use kit::{highest_kind, largest, not_built, p1, p2, place_count, used_bytes, CHIPS};
 use model::{kind, Operand};
 
 /// The event must be refused with this number and change nothing.
@@ -27,7 +28,7 @@ fn one_byte(index: usize, value: u8) -> Operand {
 
 #[test]
 fn refusal_1_selectors_over_3() {
-    for chip in [1, 2] {
+    for chip in CHIPS {
         let bench = Bench::fresh(chip);
         for selector in 4..=255 {
             assert_refused(&bench, kind::WRITE, [selector, 9, 0, 0, 0, 0, 0, 0], 1);
@@ -138,9 +139,9 @@ fn refusal_5_vertical_period_on_chip_2() {
 
 #[test]
 fn refusal_14_kinds_over_4() {
-    for chip in [1, 2] {
+    for chip in CHIPS {
         let bench = Bench::fresh(chip);
-        for event_kind in 5..=255 {
+        for event_kind in highest_kind(chip) + 1..=255 {
             assert_refused(&bench, event_kind, [0; 8], 14);
             // 14 comes before 15.
             assert_refused(&bench, event_kind, [9; 8], 14);
@@ -149,27 +150,15 @@ fn refusal_14_kinds_over_4() {
     }
 }
 
-/// The operand bytes that document 01 gives a meaning.
-fn used(chip: u8, event_kind: u8) -> &'static [usize] {
-    match (chip, event_kind) {
-        (_, kind::WRITE) => &[0, 1],
-        (_, kind::READ) => &[0],
-        (1, kind::TICK) => &[0, 1, 2, 3, 4, 5, 6, 7],
-        (2, kind::TICK) => &[0, 7],
-        (_, kind::VERTICAL | kind::SAVE) => &[],
-        _ => no_such_chip(chip),
-    }
-}
-
 #[test]
 fn refusal_15_each_unused_operand_byte() {
     let mut refused = 0;
-    for chip in [1, 2] {
-        for event_kind in 0..=4 {
+    for chip in CHIPS {
+        for event_kind in 0..=highest_kind(chip) {
             for byte in 0..8 {
                 let operand = one_byte(byte, 1);
                 let (answer, _) = model::event(&Bench::fresh(chip).state, event_kind, &operand);
-                if used(chip, event_kind).contains(&byte) {
+                if used_bytes(chip, event_kind).contains(&byte) {
                     assert_ne!(answer[0], 15);
                 } else {
                     assert_refused(&Bench::fresh(chip), event_kind, operand, 15);
@@ -214,7 +203,7 @@ fn refusal_15_comes_before_1_to_5() {
 #[test]
 fn refusal_25_each_state_value_above_its_largest() {
     let mut places_tried = 0;
-    for chip in [1, 2] {
+    for chip in CHIPS {
         for place in 0..place_count(chip) {
             let most = largest(chip, place);
             assert_accepted(
@@ -226,7 +215,7 @@ fn refusal_25_each_state_value_above_its_largest() {
                 places_tried += 1;
                 for value in [most + 1, 255] {
                     let bench = Bench::with_places(chip, &[(place, value)]);
-                    for event_kind in 0..=4 {
+                    for event_kind in 0..=highest_kind(chip) {
                         assert_refused(&bench, event_kind, [0; 8], 25);
                     }
                 }
@@ -242,7 +231,7 @@ fn refusal_25_comes_before_14_15_and_1_to_5() {
     let chip1 = Bench::with_places(1, &[(p1::ADDRESS, 8), (p1::BLINK_COUNT, 128)]);
     let chip2 = Bench::with_places(2, &[(p2::DIRECTION, 2)]);
     for bench in [&chip1, &chip2] {
-        assert_refused(bench, 5, [0; 8], 25);
+        assert_refused(bench, 200, [0; 8], 25);
         assert_refused(bench, kind::SAVE, [1; 8], 25);
         assert_refused(bench, kind::READ, one_byte(0, 9), 25);
         assert_refused(bench, kind::TICK, one_byte(7, 128), 25);
@@ -255,19 +244,19 @@ fn refusal_25_comes_before_14_15_and_1_to_5() {
 #[test]
 fn refusal_21_every_chip_that_is_not_built() {
     let mut chips = 0;
-    for chip in chips_not_built() {
+    for chip in not_built() {
         let bench = Bench::not_built(chip);
-        for event_kind in 0..=4 {
+        for event_kind in 0..=kind::SAVE {
             assert_refused(&bench, event_kind, [0; 8], 21);
         }
         chips += 1;
     }
-    assert_eq!(chips, 256 - 2);
+    assert_eq!(chips, 256 - CHIPS.len());
 }
 
 #[test]
 fn refusal_21_hands_the_state_back_time_after_time() {
-    for chip in chips_not_built() {
+    for chip in not_built() {
         let mut bench = Bench::not_built(chip);
         for _ in 0..3 {
             assert_eq!(bench.write(0, 5), 21);
@@ -286,7 +275,7 @@ fn refusal_21_comes_before_14_15_and_1_to_5() {
     // Each event gives its own number on a fresh chip that is built, and 21 on
     // every chip that isn't.
     let cases = [
-        (1, 5, [0; 8], 14),
+        (1, highest_kind(1) + 1, [0; 8], 14),
         (2, 200, [9; 8], 14),
         (1, 255, one_byte(7, 1), 14),
         (1, kind::WRITE, one_byte(2, 1), 15),
@@ -304,7 +293,7 @@ fn refusal_21_comes_before_14_15_and_1_to_5() {
     ];
     for (built, event_kind, operand, number) in cases {
         assert_refused(&Bench::fresh(built), event_kind, operand, number);
-        for chip in chips_not_built() {
+        for chip in not_built() {
             assert_refused(&Bench::not_built(chip), event_kind, operand, 21);
         }
     }
@@ -312,7 +301,7 @@ fn refusal_21_comes_before_14_15_and_1_to_5() {
 
 #[test]
 fn refusal_21_whatever_the_kind_and_the_operand() {
-    for chip in chips_not_built() {
+    for chip in not_built() {
         let bench = Bench::not_built(chip);
         for event_kind in 0..=255 {
             for operand in [[0; 8], [1; 8], [255; 8]] {

@@ -1,7 +1,8 @@
 //! The HD153129's Tables 2 and 3 and its write and read address modes as
 //! tests. The expected values are worked out from the data sheet by hand.
 
-use crate::common::{p2, rs, Bench};
+use crate::common::Bench;
+use kit::{p2, rs};
 use model::kind;
 
 /// RS1, RS0, direction before, then the places that change and their values.

@@ -1,6 +1,7 @@
 //! M1 to M10 of document 01, each from a fresh chip.
 
-use crate::common::{c, p1, p2, rs, Bench};
+use crate::common::Bench;
+use kit::{c, p1, p2, rs};
 
 #[test]
 fn m1_palette_triple_at_ff_fills_entry_255_and_wraps_the_address() {

@@ -1,9 +1,8 @@
 //! Which accesses paint, worked out by hand from document 01.
 
-use crate::common::{
-    chip_of_round, is_access, log_bytes, no_such_chip, p1, p2, read, save_event, snapshot_bytes,
-    tick, vertical, write, Bench, Random,
-};
+use crate::common::Bench;
+use kit::{chip_of_round, is_access, log_bytes, p1, p2, snapshot_bytes, Random};
+use kit::{read, save as save_event, tick, vertical, write};
 use model::{painting_accesses, save, Event, Refusal};
 
 /// The painting accesses of this log are exactly these indices.
@@ -182,8 +181,8 @@ fn accesses_that_do_not_paint_change_nothing_that_is_shown() {
 /// can change.
 fn shown_places(places: &[u8], chip: u8) -> Vec<u8> {
     match chip {
-        1 => [&places[..780], &places[784..787]].concat(),
-        2 => [&places[..768], &places[773..774]].concat(),
-        _ => no_such_chip(chip),
+        1 => [&places[..p1::ADDRESS], &places[p1::READ_MASK..p1::TEST]].concat(),
+        2 => [&places[..p2::ADDRESS], &places[p2::MASK..p2::COUNT]].concat(),
+        _ => panic!("what a tick of chip {chip} looks at isn't listed"),
     }
 }

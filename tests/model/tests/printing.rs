@@ -1,23 +1,13 @@
 //! The printing program's output, from the library and from `model-replay`.
 
-use crate::common::{
-    chip_of_round, chips_not_built, log_bytes, read, save_event, tick, vertical, write, Random,
-};
+use crate::common::output_of;
+use kit::{chip_of_round, highest_kind, log_bytes, not_built, Random, NOT_BUILT};
+use kit::{read, save, tick, vertical, write};
 use model::printed;
 use std::collections::BTreeMap;
-use std::io::Write;
-use std::process::{Command, Stdio};
 
 fn printed_by_program(input: &[u8]) -> String {
-    let mut child = Command::new(env!("CARGO_BIN_EXE_model-replay"))
-        .stdin(Stdio::piped())
-        .stdout(Stdio::piped())
-        .spawn()
-        .unwrap();
-    child.stdin.take().unwrap().write_all(input).unwrap();
-    let output = child.wait_with_output().unwrap();
-    assert!(output.status.success());
-    String::from_utf8(output.stdout).unwrap()
+    output_of(env!("CARGO_BIN_EXE_model-replay"), input)
 }
 
 #[test]
@@ -69,8 +59,8 @@ fn an_empty_log_prints_a_fresh_chip() {
 #[test]
 fn a_refused_log_prints_its_number_alone() {
     let mut bad_kind = log_bytes(1, &[vertical()]);
-    bad_kind[5] = 5;
-    let mut bad_operand = log_bytes(2, &[save_event()]);
+    bad_kind[5] = highest_kind(1) + 1;
+    let mut bad_operand = log_bytes(2, &[save()]);
     bad_operand[6] = 1;
     let mut long = log_bytes(1, &[vertical()]);
     long.push(0);
@@ -78,7 +68,7 @@ fn a_refused_log_prints_its_number_alone() {
         (vec![], "refused 10\n"),
         (vec![1, 0, 0, 0], "refused 10\n"),
         (vec![0, 0, 0, 0, 0], "refused 11\n"),
-        (vec![9, 0, 0, 0, 0], "refused 11\n"),
+        (vec![NOT_BUILT, 0, 0, 0, 0], "refused 11\n"),
         (vec![2, 0xB9, 0x0B, 0, 0], "refused 12\n"),
         (vec![2, 1, 0, 0, 0], "refused 13\n"),
         (long, "refused 13\n"),
@@ -93,7 +83,7 @@ fn a_refused_log_prints_its_number_alone() {
 
 #[test]
 fn a_log_of_a_chip_that_is_not_built_prints_11() {
-    for chip in chips_not_built() {
+    for chip in not_built() {
         assert_eq!(printed(&[chip, 0, 0, 0, 0]), "refused 11\n");
         assert_eq!(printed(&log_bytes(chip, &[read(0)])), "refused 11\n");
     }
@@ -118,8 +108,7 @@ fn the_program_prints_what_the_library_prints() {
     let mut random = Random::seeded(0x5EED_0002);
     for round in 0..20 {
         let chip = chip_of_round(round);
-        let events: Vec<_> = (0..150).map(|_| random.event(chip)).collect();
-        let log = log_bytes(chip, &events);
+        let log = log_bytes(chip, &random.events(chip, 150));
         let text = printed(&log);
         assert_eq!(text.lines().count(), 151);
         assert_eq!(printed_by_program(&log), text);
@@ -135,8 +124,7 @@ fn any_input_prints_a_refusal_or_all_its_answers() {
         // Good logs with one byte changed, cut or added, now and then.
         let chip = chip_of_round(round);
         let count = random.below(6);
-        let events: Vec<_> = (0..count).map(|_| random.event(chip)).collect();
-        let mut input = log_bytes(chip, &events);
+        let mut input = log_bytes(chip, &random.events(chip, count));
         match random.below(4) {
             0 => input.truncate(random.below(input.len())),
             1 => input.push(random.byte()),
@@ -149,7 +137,7 @@ fn any_input_prints_a_refusal_or_all_its_answers() {
         let text = printed(&input);
         match text.strip_prefix("refused ") {
             Some(number) => {
-                let number: u8 = number.trim_end().parse().unwrap();
+                let number: u32 = number.trim_end().parse().unwrap();
                 *refused.entry(number).or_insert(0) += 1;
             }
             None => {
@@ -158,8 +146,7 @@ fn any_input_prints_a_refusal_or_all_its_answers() {
             }
         }
     }
-    let numbers: Vec<u8> = refused.keys().copied().collect();
-    assert_eq!(numbers, [10, 11, 12, 13, 14, 15]);
+    assert!(refused.keys().eq(&[10, 11, 12, 13, 14, 15]));
     assert!(refused.values().all(|&times| times > 20));
     assert!(accepted > 1000);
 }

@@ -1,8 +1,8 @@
 //! Save then restore, restore then save, and the save event.
 
-use crate::common::{
-    chip_of_round, log_bytes, place_count, play, save_event, snapshot_bytes, vertical, Random,
-};
+use crate::common::play;
+use kit::{chip_of_round, log_bytes, place_count, save as save_event, snapshot_bytes};
+use kit::{vertical, Random, CHIPS};
 use model::{event, kind, restore, save, save_into, State};
 
 #[test]
@@ -34,7 +34,7 @@ fn save_then_restore_gives_the_state_back() {
 
 #[test]
 fn each_place_alone_comes_back() {
-    for chip in [1u8, 2] {
+    for chip in CHIPS {
         for place in 0..place_count(chip) {
             let bytes = snapshot_bytes(chip, &[(place as u16, 1)]);
             let restored = restore(&bytes);
@@ -113,7 +113,8 @@ fn logs_come_back_as_they_were_written() {
     let mut random = Random::seeded(0x5EED_0014);
     for round in 0..50 {
         let chip = chip_of_round(round);
-        let mut events: Vec<_> = (0..random.below(80)).map(|_| random.event(chip)).collect();
+        let count = random.below(80);
+        let mut events = random.events(chip, count);
         events.push(vertical());
         let bytes = log_bytes(chip, &events);
         assert_eq!(bytes.len(), 5 + 9 * events.len());

@@ -1,11 +1,9 @@
 //! Refusals of a run: the snapshot's, the log's, 26, 30, 31, each alone, in
 //! every combination of groups, and in order inside each group.
 
-use crate::common::{
-    chip_of_round, chips_not_built, log_bytes, read, save_event, snapshot_bytes, tick, vertical,
-    write, Random,
-};
-use model::{read_log, run, Event};
+use kit::{chip_of_round, highest_kind, log_bytes, not_built, place_count, snapshot_bytes};
+use kit::{read, save, tick, vertical, write, Random, CHIPS, NOT_BUILT};
+use model::{kind, read_log, run, Event};
 
 /// Runs with buffers of these sizes; gives the result and both buffers.
 fn run_with(
@@ -58,10 +56,13 @@ fn odd_operand(kind: u8, operand: [u8; 8]) -> Event {
 fn snapshot_with(fault: u8, chip: u8) -> Vec<u8> {
     match fault {
         20 => vec![chip, 0],
-        21 => vec![9, 0, 0],
-        22 => vec![chip, 0x16, 0x03], // 790
+        21 => vec![NOT_BUILT, 0, 0],
+        22 => {
+            let [low, high] = (place_count(chip) as u16 + 1).to_le_bytes();
+            vec![chip, low, high]
+        }
         23 => vec![chip, 1, 0],
-        24 => snapshot_bytes(chip, &[(789, 1)]),
+        24 => snapshot_bytes(chip, &[(place_count(chip) as u16, 1)]),
         25 => snapshot_bytes(chip, &[(5, 0)]),
         _ => snapshot_bytes(chip, &[(5, 9)]),
     }
@@ -72,14 +73,14 @@ fn log_with(fault: u8, chip: u8) -> Vec<u8> {
     let mut events = [write(0, 5), read(0)];
     match fault {
         10 => return vec![chip, 2, 0, 0],
-        11 => return log_bytes(9, &events),
+        11 => return log_bytes(NOT_BUILT, &events),
         12 => return vec![chip, 0xB9, 0x0B, 0, 0], // 3,001
         13 => {
             let mut bytes = log_bytes(chip, &events);
             bytes.pop();
             return bytes;
         }
-        14 => events[1].kind = 5,
+        14 => events[1].kind = highest_kind(chip) + 1,
         15 => events[1].operand[7] = 1,
         _ => {}
     }
@@ -89,36 +90,34 @@ fn log_with(fault: u8, chip: u8) -> Vec<u8> {
 #[test]
 fn every_combination_of_groups_gives_the_first_refusal() {
     let mut tried = 0;
-    for snapshot_chip in [1, 2] {
+    for (snapshot_chip, log_chip) in pairs_of_chips() {
+        let chip_fault = if snapshot_chip == log_chip { 0 } else { 26 };
         for snapshot_fault in [0, 20, 21, 22, 23, 24, 25] {
             for log_fault in [0, 10, 11, 12, 13, 14, 15] {
-                for log_chip in [1, 2] {
-                    let chip_fault = if log_chip == snapshot_chip { 0 } else { 26 };
-                    for (answer_bytes, answer_fault) in [(36, 0), (35, 30)] {
-                        for (end_bytes, end_fault) in [(2370, 0), (2369, 31)] {
-                            let snapshot = snapshot_with(snapshot_fault, snapshot_chip);
-                            let log = log_with(log_fault, log_chip);
-                            let faults = [
-                                snapshot_fault,
-                                log_fault,
-                                chip_fault,
-                                answer_fault,
-                                end_fault,
-                            ];
-                            match faults.into_iter().find(|&fault| fault != 0) {
-                                Some(number) => {
-                                    assert_refused(&snapshot, &log, answer_bytes, end_bytes, number)
-                                }
-                                None => assert_accepted(&snapshot, &log, answer_bytes, end_bytes),
+                let snapshot = snapshot_with(snapshot_fault, snapshot_chip);
+                let log = log_with(log_fault, log_chip);
+                for (answer_bytes, answer_fault) in [(36, 0), (35, 30)] {
+                    for (end_bytes, end_fault) in [(2370, 0), (2369, 31)] {
+                        let inputs = [snapshot_fault, log_fault, chip_fault];
+                        let faults = [&inputs[..], &[answer_fault, end_fault]].concat();
+                        match faults.into_iter().find(|&fault| fault != 0) {
+                            Some(number) => {
+                                assert_refused(&snapshot, &log, answer_bytes, end_bytes, number)
                             }
-                            tried += 1;
+                            None => assert_accepted(&snapshot, &log, answer_bytes, end_bytes),
                         }
+                        tried += 1;
                     }
                 }
             }
         }
     }
-    assert_eq!(tried, 2 * 7 * 7 * 2 * 2 * 2);
+    assert_eq!(tried, CHIPS.len() * CHIPS.len() * 7 * 7 * 2 * 2);
+}
+
+fn pairs_of_chips() -> impl Iterator<Item = (u8, u8)> {
+    let with_each = |chip| CHIPS.into_iter().map(move |other| (chip, other));
+    CHIPS.into_iter().flat_map(with_each)
 }
 
 #[test]
@@ -130,11 +129,11 @@ fn refusal_10_under_5_bytes_comes_before_11() {
 
 #[test]
 fn refusal_11_chip_comes_before_12_13_and_14() {
-    for chip in chips_not_built() {
+    for chip in not_built() {
         assert_log_refused(&[chip, 0, 0, 0, 0], 11);
         assert_log_refused(&[chip, 0xFF, 0xFF, 0xFF, 0xFF], 11);
         assert_log_refused(&[chip, 1, 0, 0, 0], 11);
-        assert_log_refused(&log_bytes(chip, &[odd_kind(9)]), 11);
+        assert_log_refused(&log_bytes(chip, &[odd_kind(200)]), 11);
     }
 }
 
@@ -146,7 +145,7 @@ fn refusal_12_count_comes_before_13_and_14() {
     assert_log_refused(&[1, 0xFF, 0xFF, 0xFF, 0xFF], 12);
     // 3,001 events of the right length, good ones or not.
     assert_log_refused(&log_bytes(1, &vec![vertical(); 3001]), 12);
-    assert_log_refused(&log_bytes(1, &vec![odd_kind(7); 3001]), 12);
+    assert_log_refused(&log_bytes(1, &vec![odd_kind(200); 3001]), 12);
 }
 
 #[test]
@@ -154,8 +153,8 @@ fn refusal_13_length_comes_before_14_and_15() {
     for events in [
         vec![],
         vec![vertical()],
-        vec![odd_kind(5); 2],
-        vec![odd_operand(4, [1; 8]); 3],
+        vec![odd_kind(200); 2],
+        vec![odd_operand(kind::SAVE, [1; 8]); 3],
     ] {
         let bytes = log_bytes(1, &events);
         let mut longer = bytes.clone();
@@ -170,9 +169,9 @@ fn refusal_13_length_comes_before_14_and_15() {
 #[test]
 fn refusals_14_and_15_the_lowest_index_decides() {
     let good = write(0, 5);
-    let bad_kind = odd_kind(5);
-    let bad_operand = odd_operand(1, [0, 1, 0, 0, 0, 0, 0, 0]);
-    for chip in [1, 2] {
+    let bad_operand = odd_operand(kind::READ, [0, 1, 0, 0, 0, 0, 0, 0]);
+    for chip in CHIPS {
+        let bad_kind = odd_kind(highest_kind(chip) + 1);
         for (events, number) in [
             (vec![bad_kind], 14),
             (vec![bad_operand], 15),
@@ -190,8 +189,8 @@ fn refusals_14_and_15_the_lowest_index_decides() {
 #[test]
 fn refusals_14_and_15_at_one_index_the_smaller_number() {
     let both = odd_operand(200, [1; 8]);
-    let bad_operand = odd_operand(4, [0, 0, 0, 0, 0, 0, 0, 1]);
-    for chip in [1, 2] {
+    let bad_operand = odd_operand(kind::SAVE, [0, 0, 0, 0, 0, 0, 0, 1]);
+    for chip in CHIPS {
         assert_log_refused(&log_bytes(chip, &[both]), 14);
         assert_log_refused(&log_bytes(chip, &[both, bad_operand]), 14);
         assert_log_refused(&log_bytes(chip, &[bad_operand, both]), 15);
@@ -211,8 +210,8 @@ fn refusal_15_goes_by_the_logs_chip() {
 
 #[test]
 fn refusal_26_both_ways_round() {
-    for (snapshot_chip, log_chip) in [(1, 2), (2, 1)] {
-        let log = log_bytes(log_chip, &[save_event()]);
+    for (snapshot_chip, log_chip) in pairs_of_chips().filter(|(one, other)| one != other) {
+        let log = log_bytes(log_chip, &[save()]);
         assert_refused(&[snapshot_chip, 0, 0], &log, 18, 2370, 26);
         // 26 comes before 30 and 31.
         assert_refused(&[snapshot_chip, 0, 0], &log, 17, 2370, 26);
@@ -238,7 +237,7 @@ fn refusal_30_one_byte_short_exact_and_longer() {
 
 #[test]
 fn refusal_31_one_byte_short_exact_and_longer() {
-    for chip in [1, 2] {
+    for chip in CHIPS {
         let log = log_bytes(chip, &[read(0)]);
         for size in [0, 3, 2325, 2369] {
             assert_refused(&[chip, 0, 0], &log, 18, size, 31);
@@ -303,7 +302,8 @@ fn a_run_is_its_events_called_one_after_another() {
     for round in 0..200 {
         let chip = chip_of_round(round);
         let start = random.state(chip);
-        let events: Vec<Event> = (0..random.below(60)).map(|_| random.event(chip)).collect();
+        let count = random.below(60);
+        let events = random.events(chip, count);
         let mut state = start.clone();
         let mut expected = Vec::new();
         for event in &events {

@@ -2,7 +2,8 @@
 //! a lent buffer (21, 25, then 31), as calls of their own; and which states
 //! there are.
 
-use crate::common::{chips_not_built, largest, p1, p2, place_count, snapshot_bytes, Bench};
+use crate::common::Bench;
+use kit::{largest, not_built, p1, p2, place_count, snapshot_bytes, CHIPS};
 use model::{restore, save, save_into, Refusal, State};
 
 /// A refused restore gives a fresh chip 1 beside its number.
@@ -50,7 +51,7 @@ fn a_state_of_a_built_chip_has_that_chips_places() {
 
 #[test]
 fn a_state_of_a_chip_that_is_not_built_has_its_chip_byte_and_no_places() {
-    for chip in chips_not_built() {
+    for chip in not_built() {
         assert_eq!(State::fresh(chip), None);
         assert_eq!(State::place_count(chip), None);
         let state = State::from_places(chip, &[]).unwrap();
@@ -66,8 +67,8 @@ fn a_state_of_a_chip_that_is_not_built_has_its_chip_byte_and_no_places() {
 
 #[test]
 fn states_of_two_chips_that_are_not_built_differ() {
-    for chip in chips_not_built() {
-        let same = chips_not_built()
+    for chip in not_built() {
+        let same = not_built()
             .filter(|&other| State::from_places(other, &[]) == State::from_places(chip, &[]));
         assert_eq!(same.collect::<Vec<u8>>(), [chip]);
     }
@@ -84,7 +85,7 @@ fn refusal_20_under_3_bytes() {
 
 #[test]
 fn refusal_21_chip() {
-    for chip in chips_not_built() {
+    for chip in not_built() {
         assert_refused(&[chip, 0, 0], 21);
         // 21 comes before 22, 23, 24 and 25.
         assert_refused(&[chip, 0xFF, 0xFF], 21);
@@ -96,7 +97,7 @@ fn refusal_21_chip() {
 
 #[test]
 fn refusal_22_count_over_the_places() {
-    for chip in [1, 2] {
+    for chip in CHIPS {
         let most = place_count(chip);
         assert_accepted(&first_places(chip, most));
         // One place too many: the right length for it doesn't help (24 and 23
@@ -130,7 +131,7 @@ fn refusal_23_length() {
 
 #[test]
 fn refusal_24_places() {
-    for chip in [1u8, 2] {
+    for chip in CHIPS {
         let last = place_count(chip) as u16 - 1;
         assert_accepted(&snapshot_bytes(chip, &[(0, 1), (last, 1)]));
         assert_refused(&snapshot_bytes(chip, &[(last + 1, 1)]), 24);
@@ -149,7 +150,7 @@ fn refusal_24_places() {
 
 #[test]
 fn refusal_25_values() {
-    for chip in [1u8, 2] {
+    for chip in CHIPS {
         for place in 0..place_count(chip) {
             let most = largest(chip, place);
             let number = place as u16;
@@ -228,7 +229,7 @@ fn save_refuses_25() {
 
 #[test]
 fn save_refuses_21() {
-    for chip in chips_not_built() {
+    for chip in not_built() {
         let bench = Bench::not_built(chip);
         assert_eq!(
             save(&bench.state).map_err(|refusal| refusal.number()),
@@ -240,7 +241,7 @@ fn save_refuses_21() {
 
 #[test]
 fn save_into_a_lent_buffer_one_short_exact_and_longer() {
-    for chip in [1, 2] {
+    for chip in CHIPS {
         let bench = Bench::with_places(chip, &[(2, 0x0A), (300, 0x3F)]);
         let bytes = [chip, 2, 0, 0x02, 0x00, 0x2C, 0x01, 0x0A, 0x3F];
         for size in [2370, 2371, 5000] {
@@ -269,7 +270,7 @@ fn assert_save_into_refused(bench: &Bench, size: usize, number: u8) {
 
 #[test]
 fn save_into_looks_for_21_before_31() {
-    for chip in chips_not_built() {
+    for chip in not_built() {
         let bench = Bench::not_built(chip);
         for size in [0, 2, 3, 2325, 2369, 2370, 2371, 5000] {
             assert_save_into_refused(&bench, size, 21);

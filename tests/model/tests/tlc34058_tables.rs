@@ -1,7 +1,8 @@
 //! The TLC34058's Tables 1 to 7 as tests. The expected values are worked out
 //! from the data sheet by hand.
 
-use crate::common::{c, p1, Bench};
+use crate::common::Bench;
+use kit::{c, p1};
 use model::kind;
 
 /// One row of Table 1 or Table 2, tried with an entry that holds A1h B2h C3h,

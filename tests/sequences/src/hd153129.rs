@@ -1,7 +1,8 @@
 //! Sequences after the HD153129's Tables 2 and 3, and one with both chips.
 
 use crate::sequence::Step::{Chip, Raw, Read, Save, Tick, Vertical, Write};
-use crate::sequence::{c, rs, Sequence, Step};
+use crate::sequence::{Sequence, Step};
+use kit::{c, rs};
 use model::kind;
 
 /// A pixel with BLANK high.

@@ -11,20 +11,23 @@ mod marked_lines;
 mod sequence;
 mod tlc34058;
 
-use model::{event, Answer, State};
+use kit::{hexadecimal, CHIPS};
+use model::{event, State};
 use sequence::{Sequence, Step, RECORD_BYTES};
-use std::fmt::Write;
 use std::path::{Path, PathBuf};
 use std::process::ExitCode;
 use std::{env, fs, io};
 
-/// The last sequence: nothing behind a chip byte over 2 is played.
+/// A chip byte that no chip has, and that doesn't make the chips fresh.
+const NO_CHIP: u8 = 255;
+
+/// The last sequence: nothing behind a chip byte of no chip is played.
 const END: Sequence = Sequence {
-    name: "the program: a chip byte over 2 ends it",
+    name: "the program: a chip byte of no chip ends it",
     chip: 1,
     parts: &[&[
         Step::Save,
-        Step::Chip(3),
+        Step::Chip(NO_CHIP),
         Step::Save,
         Step::Chip(1),
         Step::Save,
@@ -109,21 +112,15 @@ fn played(records: &[u8]) -> String {
         let operand = record[2..].try_into().expect("8 bytes");
         let (answer, next) = event(state, record[1], operand);
         *state = next;
-        push_line(&mut printed, &answer);
+        printed.push_str(&hexadecimal(&answer));
+        printed.push('\n');
     }
     printed
 }
 
-fn fresh_chips() -> [State; 2] {
-    [1, 2].map(|chip| State::fresh(chip).expect("chips 1 and 2 are built"))
-}
-
-/// 36 digits and a line feed.
-fn push_line(printed: &mut String, answer: &Answer) {
-    for byte in answer {
-        write!(printed, "{byte:02x}").expect("a String takes all");
-    }
-    printed.push('\n');
+fn fresh_chips() -> Vec<State> {
+    let fresh = |chip| State::fresh(chip).expect("a built chip");
+    CHIPS.into_iter().map(fresh).collect()
 }
 
 fn written(folder: &Path, parts: &[Part]) -> io::Result<bool> {

@@ -1,7 +1,8 @@
 //! M1 to M10 of document 01, each with reads or ticks that show its end.
 
+use crate::sequence::Sequence;
 use crate::sequence::Step::{Read, Tick, Vertical, Write};
-use crate::sequence::{c, rs, Sequence};
+use kit::{c, rs};
 
 pub const SEQUENCES: &[Sequence] = &[
     Sequence {

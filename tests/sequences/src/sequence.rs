@@ -5,22 +5,6 @@ use model::{kind, Operand};
 /// Chip byte, kind, 8 operand bytes.
 pub const RECORD_BYTES: usize = 10;
 
-/// Selectors of the TLC34058, 2 x C1 + C0.
-pub mod c {
-    pub const ADDRESS: u8 = 0;
-    pub const PALETTE: u8 = 1;
-    pub const CONTROL: u8 = 2;
-    pub const OVERLAY: u8 = 3;
-}
-
-/// Selectors of the HD153129, 2 x RS1 + RS0.
-pub mod rs {
-    pub const WRITE_MODE: u8 = 0;
-    pub const CLT: u8 = 1;
-    pub const PIXEL_MASK: u8 = 2;
-    pub const READ_MODE: u8 = 3;
-}
-
 pub enum Step {
     /// A selector, and the bytes written there, a write each.
     Write(u8, &'static [u8]),
@@ -36,7 +20,7 @@ pub enum Step {
     Chip(u8),
 }
 
-/// Both chips start fresh; events go to `chip`.
+/// All chips start fresh; events go to `chip`.
 pub struct Sequence {
     /// The table or the marked line that it plays.
     pub name: &'static str,

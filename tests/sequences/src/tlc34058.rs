@@ -1,8 +1,9 @@
 //! Sequences after the TLC34058's Tables 1 to 7. Each ends with reads or ticks
 //! that show what came of it.
 
+use crate::sequence::Sequence;
 use crate::sequence::Step::{self, Raw, Read, Save, Tick, Vertical, Write};
-use crate::sequence::{c, Sequence};
+use kit::c;
 use model::kind;
 
 /// Entries 00h, 01h and FFh, overlays 0 to 3, all read mask bits; the address

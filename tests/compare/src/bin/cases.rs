@@ -8,32 +8,10 @@
 //! every byte that is printed. Each file or folder must show every refusal.
 //! Prints a line for each case and 'N passed, M failed'.
 
-#[path = "../blocks.rs"]
-mod blocks;
-#[allow(dead_code)]
-#[path = "../case.rs"]
-mod case;
-#[allow(dead_code)]
-#[path = "../damage.rs"]
-mod damage;
-#[allow(dead_code)]
-#[path = "../generate.rs"]
-mod generate;
-#[allow(dead_code)]
-#[path = "../library.rs"]
-mod library;
-#[allow(dead_code)]
-#[path = "../random.rs"]
-mod random;
-#[allow(dead_code)]
-#[path = "../replay.rs"]
-mod replay;
-#[allow(dead_code)]
-#[path = "../shrink.rs"]
-mod shrink;
-
-use blocks::{Block, ANSWER_BYTES};
-use case::{hexadecimal, in_words};
+use compare::blocks::{self, Block, ANSWER_BYTES};
+use compare::library::{self, in_words, lacks, Call};
+use compare::program::{printed_by, WHOLE};
+use kit::hexadecimal;
 use std::collections::BTreeSet;
 use std::fs;
 use std::io;
@@ -151,16 +129,17 @@ fn refusals(block: &Block) -> impl Iterator<Item = u64> + '_ {
 
 /// The first thing that the library gets wrong, if anything.
 fn wrong_run(block: &Block, pattern: u8, layout: u64) -> Option<String> {
-    let outcome = library::run(
-        &block.snapshot,
-        &block.log,
-        &vec![pattern; block.answers_len],
-        &vec![pattern; block.end_len],
-        layout,
-        layout % 2 == 0,
+    if !Call::Run.is_there() {
+        return Some(lacks(Call::Run));
+    }
+    let (answers, end) = (
+        vec![pattern; block.answers_len],
+        vec![pattern; block.end_len],
     );
+    let strings = [&block.snapshot[..], &block.log, &answers, &end];
+    let outcome = library::call(Call::Run, &strings, layout, layout % 2 == 0);
     if let Some(trespass) = outcome.trespass {
-        return Some(trespass.into());
+        return Some(trespass);
     }
     if outcome.result != block.returned() {
         return Some(format!(
@@ -169,8 +148,8 @@ fn wrong_run(block: &Block, pattern: u8, layout: u64) -> Option<String> {
             in_words(block.returned())
         ));
     }
-    wrong_answer(block, &outcome.answers, pattern)
-        .or_else(|| wrong_end(block, &outcome.end, pattern))
+    wrong_answer(block, outcome.answers(), pattern)
+        .or_else(|| wrong_end(block, outcome.end(), pattern))
 }
 
 /// The first byte that isn't what is right, or, past that, isn't the pattern.
@@ -212,7 +191,7 @@ fn wrong_end(block: &Block, found: &[u8], pattern: u8) -> Option<String> {
 
 /// The first thing that the printing program gets wrong, if anything.
 fn wrong_print(program: &Path, block: &Block, text: &str) -> Option<String> {
-    let output = match replay::printed_by(program, &block.log, usize::MAX) {
+    let output = match printed_by(program, &block.log, WHOLE) {
         Err(fault) => return Some(fault),
         Ok(output) if output == text.as_bytes() => return None,
         Ok(output) => output,

@@ -1,5 +1,6 @@
 //! A small random source (splitmix64), the same on every machine.
 
+/// Seeded, so that a test tries the same cases each time.
 pub struct Random(u64);
 
 impl Random {
@@ -24,6 +25,10 @@ impl Random {
         self.next() as u8
     }
 
+    pub fn bytes(&mut self, count: usize) -> Vec<u8> {
+        (0..count).map(|_| self.byte()).collect()
+    }
+
     pub fn up_to(&mut self, most: u8) -> u8 {
         self.below(usize::from(most) + 1) as u8
     }
@@ -44,5 +49,11 @@ impl Random {
             1 => count - 1,
             _ => self.below(count),
         }
+    }
+
+    /// One of the bits that are set in `bits`, which aren't all 0.
+    pub fn bit_of(&mut self, bits: u8) -> u8 {
+        let set: Vec<u8> = (0..8).map(|n| 1 << n).filter(|n| bits & n != 0).collect();
+        self.pick(&set)
     }
 }

@@ -1,0 +1,336 @@
+//! The classes of calls on a state. Each makes records; the model says what is
+//! right.
+
+use crate::calls::drive::Batch;
+use crate::calls::faults::{accepted, any, planted, planted_with_unused, spoil, Planted};
+use crate::calls::faults::{OF_THE_CHIP, OF_THE_FORM};
+use crate::calls::record::{Record, Whole, BUFFER_BYTES, CALLS};
+use crate::classes::scramble;
+use crate::damage::{damaged_snapshot, snapshot_with_two_faults, SNAPSHOT_FAULTS};
+use kit::{largest, nonzero, other_chips, place_count, save, snapshot_bytes, Random, CHIPS};
+use model::{Refusal, END_BUFFER_BYTES};
+
+/// A class of random records.
+pub struct Class {
+    pub name: &'static str,
+    /// Records in a round.
+    pub records: usize,
+    /// Makes the record with this number.
+    pub make: fn(&mut Random, usize) -> Record,
+}
+
+const fn class(
+    name: &'static str,
+    records: usize,
+    make: fn(&mut Random, usize) -> Record,
+) -> Class {
+    Class {
+        name,
+        records,
+        make,
+    }
+}
+
+pub const RANDOM: &[Class] = &[
+    class("calls: events on any state", 200, any_event),
+    class("calls: events that the chip refuses", 100, refused_event),
+    class("calls: odd kinds and unused bytes", 120, odd_form),
+    class(
+        "calls: events on values above their largest",
+        160,
+        too_large,
+    ),
+    class("calls: events on chips that aren't built", 160, not_built),
+    class(
+        "calls: other part's values above their largest",
+        60,
+        other_part,
+    ),
+    class(
+        "calls: saves, buffers short, exact and longer",
+        120,
+        any_save,
+    ),
+    class("calls: saves of states that are refused", 80, refused_save),
+    class("calls: restores of accepted snapshots", 60, any_restore),
+    class("calls: restores of damaged snapshots", 120, refused_restore),
+    class("calls: restores, two faults", 100, two_faults),
+    class("calls: restores of any bytes", 60, any_bytes),
+];
+
+fn event_record(planted: Planted) -> Record {
+    Record::Event {
+        state: planted.state,
+        event: planted.event,
+    }
+}
+
+fn any_event(random: &mut Random, _: usize) -> Record {
+    event_record(any(random))
+}
+
+fn refused_event(random: &mut Random, number: usize) -> Record {
+    event_record(planted(random, OF_THE_CHIP[number % OF_THE_CHIP.len()]))
+}
+
+/// 14 with and without operand bytes, 15 with and without 1 to 5 behind it.
+fn odd_form(random: &mut Random, number: usize) -> Record {
+    let behind = number % (OF_THE_CHIP.len() + OF_THE_FORM.len());
+    event_record(match OF_THE_CHIP.get(behind) {
+        Some(&fault) => planted_with_unused(random, fault),
+        None => planted(random, OF_THE_FORM[behind - OF_THE_CHIP.len()]),
+    })
+}
+
+/// An event with any fault, or none, in turn.
+fn in_turn(random: &mut Random, number: usize) -> Planted {
+    let faults: Vec<Refusal> = OF_THE_CHIP.into_iter().chain(OF_THE_FORM).collect();
+    match faults.get(number % (faults.len() + 1)) {
+        Some(&fault) => planted(random, fault),
+        None => any(random),
+    }
+}
+
+fn too_large(random: &mut Random, number: usize) -> Record {
+    let mut planted = in_turn(random, number);
+    let chip = planted.state.chip;
+    spoil(random, chip, planted.state.part(chip));
+    event_record(planted)
+}
+
+/// With and without values above their largest in any part.
+fn not_built(random: &mut Random, number: usize) -> Record {
+    let mut planted = in_turn(random, number);
+    unname(random, &mut planted.state);
+    event_record(planted)
+}
+
+fn unname(random: &mut Random, state: &mut Whole) {
+    if random.one_in(2) {
+        let chip = random.chip();
+        spoil(random, chip, state.part(chip));
+    }
+    state.chip = random.chip_not_built();
+}
+
+/// They are no fault: the call goes by the named part alone.
+fn other_part(random: &mut Random, number: usize) -> Record {
+    let mut planted = in_turn(random, number);
+    let chip = planted.state.chip;
+    for other in other_chips(chip) {
+        spoil(random, other, planted.state.part(other));
+    }
+    event_record(planted)
+}
+
+fn save_record(random: &mut Random, state: Whole, room: usize) -> Record {
+    Record::Save {
+        state,
+        room,
+        fill: random.byte(),
+    }
+}
+
+fn enough(random: &mut Random) -> usize {
+    let most = BUFFER_BYTES;
+    random.pick(&[END_BUFFER_BYTES, END_BUFFER_BYTES + 1, most - 1, most])
+}
+
+/// Among others the length of the snapshot itself.
+fn too_short(random: &mut Random, places: &[u8]) -> usize {
+    let most = END_BUFFER_BYTES - 1;
+    let own = 3 + 3 * nonzero(places).len();
+    let any = random.below(END_BUFFER_BYTES);
+    random.pick(&[0, 1, most, most.min(own), any])
+}
+
+fn any_save(random: &mut Random, _: usize) -> Record {
+    let chip = random.chip();
+    let mut state = accepted(random, chip);
+    let room = match random.below(3) {
+        0 => too_short(random, state.part(chip)),
+        _ => enough(random),
+    };
+    save_record(random, state, room)
+}
+
+/// 25 and 21, with room and without; 21 with 25 behind it too.
+fn refused_save(random: &mut Random, number: usize) -> Record {
+    let chip = random.chip();
+    let mut state = accepted(random, chip);
+    let room = match random.below(2) {
+        0 => too_short(random, state.part(chip)),
+        _ => enough(random),
+    };
+    if number % 2 == 0 {
+        spoil(random, chip, state.part(chip));
+    } else {
+        unname(random, &mut state);
+    }
+    save_record(random, state, room)
+}
+
+fn any_restore(random: &mut Random, _: usize) -> Record {
+    let chip = random.chip();
+    let places = match random.below(3) {
+        0 => random.full_places(chip),
+        _ => random.places(chip),
+    };
+    let snapshot = snapshot_bytes(chip, &nonzero(&places));
+    Record::Restore { snapshot }
+}
+
+fn refused_restore(random: &mut Random, number: usize) -> Record {
+    let chip = random.chip();
+    let fault = SNAPSHOT_FAULTS[number % SNAPSHOT_FAULTS.len()];
+    fitting(|| damaged_snapshot(random, chip, fault))
+}
+
+/// 24 and 25 together, the lowest index deciding.
+fn two_faults(random: &mut Random, _: usize) -> Record {
+    let chip = random.chip();
+    fitting(|| snapshot_with_two_faults(random, chip))
+}
+
+/// Some are as long as the program's buffer.
+fn any_bytes(random: &mut Random, _: usize) -> Record {
+    let chip = random.chip();
+    fitting(|| {
+        let mut snapshot = random.snapshot(chip);
+        scramble(random, &mut snapshot);
+        if random.one_in(5) {
+            snapshot.resize(BUFFER_BYTES, random.byte());
+        }
+        snapshot
+    })
+}
+
+/// The first of the snapshots that the program has room for.
+fn fitting(mut make: impl FnMut() -> Vec<u8>) -> Record {
+    loop {
+        let snapshot = make();
+        if snapshot.len() <= BUFFER_BYTES {
+            return Record::Restore { snapshot };
+        }
+    }
+}
+
+/// Records that are all tried, once.
+pub struct Sweep {
+    pub name: &'static str,
+    pub batches: fn(&mut Random) -> Vec<Batch>,
+}
+
+pub const SWEEPS: &[Sweep] = &[
+    Sweep {
+        name: "calls: every place at its largest and one above",
+        batches: |random| vec![Batch::whole(every_place(random))],
+    },
+    Sweep {
+        name: "calls: every chip byte",
+        batches: |random| vec![Batch::whole(every_chip_byte(random))],
+    },
+    Sweep {
+        name: "calls: every room of a save",
+        batches: |random| vec![Batch::whole(every_room(random))],
+    },
+    Sweep {
+        name: "calls: nothing behind the end is played",
+        batches: ends,
+    },
+    Sweep {
+        name: "calls: in small pieces through a pipe",
+        batches: in_pieces,
+    },
+];
+
+/// A save event, which goes through every place, and a save.
+fn event_and_save(random: &mut Random, state: Whole) -> [Record; 2] {
+    let event = Record::Event {
+        state: state.clone(),
+        event: save(),
+    };
+    [event, save_record(random, state, END_BUFFER_BYTES)]
+}
+
+fn every_place(random: &mut Random) -> Vec<Record> {
+    let mut records = Vec::new();
+    for chip in CHIPS {
+        for place in 0..place_count(chip) {
+            let most = largest(chip, place);
+            for value in [Some(most), most.checked_add(1)].into_iter().flatten() {
+                let mut state = Whole::fresh(chip);
+                state.part(chip)[place] = value;
+                records.extend(event_and_save(random, state));
+            }
+        }
+    }
+    records
+}
+
+fn every_chip_byte(random: &mut Random) -> Vec<Record> {
+    let mut records = Vec::new();
+    for chip in 0..=255 {
+        let state = Whole::fresh(chip);
+        records.extend(event_and_save(random, state));
+        let snapshot = vec![chip, 0, 0];
+        records.push(Record::Restore { snapshot });
+    }
+    records
+}
+
+/// Rooms round the least that is accepted, round each chip's own longest
+/// snapshot, and at the ends.
+fn every_room(random: &mut Random) -> Vec<Record> {
+    let mut rooms = vec![0, 1, 2, 3, BUFFER_BYTES - 1, BUFFER_BYTES];
+    rooms.extend(END_BUFFER_BYTES - 3..=END_BUFFER_BYTES + 3);
+    for chip in CHIPS {
+        let longest = 3 + 3 * place_count(chip);
+        rooms.extend(longest - 1..=longest + 1);
+    }
+    let mut records = Vec::new();
+    for chip in CHIPS {
+        for &room in &rooms {
+            for fill in [0, 0xFF, random.byte()] {
+                let mut state = Whole::fresh(chip);
+                *state.part(chip) = random.full_places(chip);
+                records.push(Record::Save { state, room, fill });
+            }
+        }
+    }
+    records
+}
+
+fn some_records(random: &mut Random, count: usize) -> Vec<Record> {
+    let some = |number| {
+        let class = &RANDOM[random.below(RANDOM.len())];
+        (class.make)(random, number)
+    };
+    (0..count).map(some).collect()
+}
+
+/// An input of nothing; records behind each byte that names no call.
+fn ends(random: &mut Random) -> Vec<Batch> {
+    let mut batches = vec![Batch::whole(Vec::new())];
+    for end in CALLS..=255 {
+        let count = random.below(3);
+        let mut batch = Batch::whole(some_records(random, count));
+        batch.tail.push(end);
+        for record in some_records(random, 2) {
+            batch.tail.extend(record.bytes());
+        }
+        batches.push(batch);
+    }
+    batches
+}
+
+fn in_pieces(random: &mut Random) -> Vec<Batch> {
+    let state = Whole::fresh(CHIPS[0]).bytes().len();
+    [1, 2, 7, 19, state - 1, state, 4097]
+        .into_iter()
+        .map(|piece| Batch {
+            piece,
+            ..Batch::whole(some_records(random, 11))
+        })
+        .collect()
+}

@@ -1,0 +1,331 @@
+//! A call as a record of the program's input, and what it must print for it.
+//!
+//! A record starts with a byte that names the call. A state is the chip byte
+//! and all places of every built chip, in the order of `CHIPS`, whatever their
+//! values; numbers have their low byte first. Each call prints two lines.
+//!
+//! - 0, event: state, kind, 8 operand bytes. The answer; the state.
+//! - 1, save: state, room (2 bytes), fill. The refusal and the length; the
+//!   whole buffer, which held the fill and of which the first `room` bytes were
+//!   lent.
+//! - 2, restore: length (2 bytes), the bytes. The refusal; the state.
+//!
+//! Bytes are printed as lowercase hexadecimal digits, numbers in decimal.
+
+use crate::report::{before, row, Shown, Table, ACCEPTED};
+use kit::{hexadecimal, highest_kind, largest, place_count, used_bytes, CHIPS};
+use model::{event, kind, restore, save_into, Event, Refusal, State};
+
+/// The most records that the program plays.
+pub const MOST_RECORDS: usize = 65_536;
+/// The program's buffer: the most that a save is lent or a restore is given.
+pub const BUFFER_BYTES: usize = 4_096;
+/// A first byte that names no call ends the program. The calls are below this.
+pub const CALLS: u8 = 3;
+
+/// A state with a part for each built chip, of which the chip byte names one,
+/// or none.
+#[derive(Clone)]
+pub struct Whole {
+    pub chip: u8,
+    /// In the order of `CHIPS`.
+    pub parts: Vec<Vec<u8>>,
+}
+
+impl Whole {
+    /// All parts fresh.
+    pub fn fresh(chip: u8) -> Whole {
+        let fresh = |chip| vec![0; place_count(chip)];
+        Whole {
+            chip,
+            parts: CHIPS.into_iter().map(fresh).collect(),
+        }
+    }
+
+    /// A built chip's part.
+    pub fn part(&mut self, chip: u8) -> &mut Vec<u8> {
+        let index = CHIPS.iter().position(|&built| built == chip);
+        &mut self.parts[index.expect("a built chip")]
+    }
+
+    /// The state that the chip byte names; a chip that isn't built has no
+    /// places.
+    fn named(&self) -> State {
+        let mut parts = CHIPS.iter().zip(&self.parts);
+        let named = parts.find(|(&chip, _)| chip == self.chip);
+        let places = named.map_or(&[][..], |(_, part)| part);
+        State::from_places(self.chip, places).expect("as many places as the chip has")
+    }
+
+    /// With this state in its own part, the others as they were.
+    fn with(mut self, state: &State) -> Whole {
+        self.chip = state.chip();
+        if CHIPS.contains(&self.chip) {
+            *self.part(state.chip()) = state.places();
+        }
+        self
+    }
+
+    pub fn bytes(&self) -> Vec<u8> {
+        let mut bytes = vec![self.chip];
+        bytes.extend(self.parts.iter().flatten());
+        bytes
+    }
+
+    /// What the byte with this number in `bytes` is.
+    fn byte_name(number: usize) -> String {
+        let Some(mut place) = number.checked_sub(1) else {
+            return "the chip byte".into();
+        };
+        for chip in CHIPS {
+            if place < place_count(chip) {
+                return format!("place {place} of chip {chip}");
+            }
+            place -= place_count(chip);
+        }
+        "a byte past the state".into()
+    }
+}
+
+#[derive(Clone)]
+pub enum Record {
+    Event { state: Whole, event: Event },
+    Save { state: Whole, room: usize, fill: u8 },
+    Restore { snapshot: Vec<u8> },
+}
+
+/// What a call gives by the model: its refusal or 0, and the two lines.
+struct Expected {
+    refusal: u64,
+    lines: [String; 2],
+}
+
+fn number(refusal: Option<Refusal>) -> u64 {
+    refusal.map_or(0, |refusal| refusal.number().into())
+}
+
+impl Record {
+    pub fn call(&self) -> &'static str {
+        match self {
+            Record::Event { .. } => "event",
+            Record::Save { .. } => "save",
+            Record::Restore { .. } => "restore",
+        }
+    }
+
+    pub fn bytes(&self) -> Vec<u8> {
+        let length = |bytes: usize| {
+            assert!(bytes <= BUFFER_BYTES, "the program's buffer is smaller");
+            (bytes as u16).to_le_bytes()
+        };
+        match self {
+            Record::Event { state, event } => {
+                let kind_and_operand = [&[event.kind][..], &event.operand].concat();
+                [&[0][..], &state.bytes(), &kind_and_operand].concat()
+            }
+            Record::Save { state, room, fill } => {
+                [&[1][..], &state.bytes(), &length(*room), &[*fill]].concat()
+            }
+            Record::Restore { snapshot } => [&[2][..], &length(snapshot.len()), snapshot].concat(),
+        }
+    }
+
+    fn expected(&self) -> Expected {
+        match self {
+            Record::Event { state, event: e } => {
+                let (answer, next) = event(&state.named(), e.kind, &e.operand);
+                let next = state.clone().with(&next);
+                Expected {
+                    refusal: answer[0].into(),
+                    lines: [hexadecimal(&answer), hexadecimal(&next.bytes())],
+                }
+            }
+            Record::Save { state, room, fill } => {
+                let mut buffer = vec![*fill; BUFFER_BYTES];
+                let saved = save_into(&state.named(), &mut buffer[..*room]);
+                let refusal = number(saved.refusal);
+                let numbers = format!("{refusal} {}", saved.length);
+                Expected {
+                    refusal,
+                    lines: [numbers, hexadecimal(&buffer)],
+                }
+            }
+            Record::Restore { snapshot } => {
+                let restored = restore(snapshot);
+                let refusal = number(restored.refusal);
+                let state = Whole::fresh(restored.state.chip()).with(&restored.state);
+                Expected {
+                    refusal,
+                    lines: [refusal.to_string(), hexadecimal(&state.bytes())],
+                }
+            }
+        }
+    }
+
+    /// What is wrong with the two lines that the program prints, if anything.
+    pub fn wrong(&self, printed: [&str; 2]) -> Option<String> {
+        let Expected { lines, .. } = self.expected();
+        let call = self.call();
+        if printed[0] != lines[0] {
+            return Some(format!(
+                "{call}: the program prints {}, the model {}",
+                printed[0], lines[0]
+            ));
+        }
+        if printed[1].len() != lines[1].len() {
+            return Some(format!(
+                "{call}: the second line has {} characters, and not {}",
+                printed[1].len(),
+                lines[1].len()
+            ));
+        }
+        let (found, wanted) = (printed[1].as_bytes(), lines[1].as_bytes());
+        let at = (0..wanted.len()).find(|&at| found[at] != wanted[at])? / 2;
+        let byte = match self {
+            Record::Save { .. } => format!("byte {at} of the buffer"),
+            _ => Whole::byte_name(at),
+        };
+        let digits = |line: &[u8]| String::from_utf8_lossy(&line[2 * at..2 * at + 2]).into_owned();
+        let (found, wanted) = (digits(found), digits(wanted));
+        Some(format!(
+            "{call}: {byte} is {found} in the program, {wanted} in the model"
+        ))
+    }
+
+    /// What the call shows by the model: its refusal; and with it each refusal
+    /// that would come if that fault were mended.
+    pub fn shown(&self) -> Vec<Shown> {
+        let first = self.expected().refusal;
+        let mended = self.mended(first).into_iter();
+        let next = mended.map(|record| record.expected().refusal);
+        let behind = next.filter(|&next| next != 0).map(|next| (first, next));
+        [(first, 0)].into_iter().chain(behind).collect()
+    }
+
+    /// The call without the fault that it is refused for: for a chip that isn't
+    /// built, with each chip that is.
+    fn mended(&self, refusal: u64) -> Vec<Record> {
+        let is = |fault: Refusal| refusal == u64::from(fault.number());
+        if is(Refusal::SnapshotChip) {
+            return CHIPS.into_iter().filter_map(|chip| self.on(chip)).collect();
+        }
+        let mut record = self.clone();
+        match &mut record {
+            Record::Event { state, .. } | Record::Save { state, .. } if is(Refusal::Value) => {
+                clamp(state)
+            }
+            Record::Event { event, .. } if is(Refusal::Kind) => event.kind = kind::SAVE,
+            Record::Event { state, event } if is(Refusal::UnusedByte) => {
+                clear_unused(state.chip, event)
+            }
+            _ => return Vec::new(),
+        }
+        vec![record]
+    }
+
+    /// The call with this chip named by its state, if it takes one.
+    fn on(&self, chip: u8) -> Option<Record> {
+        let mut record = self.clone();
+        match &mut record {
+            Record::Event { state, .. } | Record::Save { state, .. } => state.chip = chip,
+            Record::Restore { .. } => return None,
+        }
+        Some(record)
+    }
+
+    /// What must be shown by this sort of call.
+    pub fn table(&self) -> &'static Table {
+        match self {
+            Record::Event { .. } => &EVENTS,
+            Record::Save { .. } => &SAVES,
+            Record::Restore { .. } => &RESTORES,
+        }
+    }
+}
+
+/// Values above their largest become their largest, in the named part.
+fn clamp(state: &mut Whole) {
+    let chip = state.chip;
+    for (place, value) in state.part(chip).iter_mut().enumerate() {
+        *value = largest(chip, place).min(*value);
+    }
+}
+
+/// The operand's unused bytes become 0.
+fn clear_unused(chip: u8, event: &mut Event) {
+    debug_assert!(event.kind <= highest_kind(chip));
+    let used = used_bytes(chip, event.kind);
+    for (number, byte) in event.operand.iter_mut().enumerate() {
+        if !used.contains(&number) {
+            *byte = 0;
+        }
+    }
+}
+
+pub static TABLES: [&Table; 3] = [&EVENTS, &SAVES, &RESTORES];
+
+/// Event called by itself: 21, 25, 14, 15, then 1 to 5.
+pub static EVENTS: Table = Table {
+    title: "events called by themselves",
+    rows: &[
+        ACCEPTED,
+        row(Refusal::Selector, "selector over 3"),
+        row(Refusal::Address, "overlay or control address"),
+        row(Refusal::Direction, "direction"),
+        row(Refusal::TickBits, "tick bits"),
+        row(Refusal::Vertical, "vertical period on a chip without one"),
+        row(Refusal::Kind, "kind over the highest"),
+        row(Refusal::UnusedByte, "unused operand byte"),
+        row(Refusal::SnapshotChip, "state's chip not built"),
+        row(Refusal::Value, "state's value above its largest"),
+        before(Refusal::SnapshotChip, Refusal::Value),
+        before(Refusal::SnapshotChip, Refusal::Kind),
+        before(Refusal::SnapshotChip, Refusal::UnusedByte),
+        before(Refusal::SnapshotChip, Refusal::Selector),
+        before(Refusal::SnapshotChip, Refusal::Address),
+        before(Refusal::SnapshotChip, Refusal::Direction),
+        before(Refusal::SnapshotChip, Refusal::TickBits),
+        before(Refusal::SnapshotChip, Refusal::Vertical),
+        before(Refusal::Value, Refusal::Kind),
+        before(Refusal::Value, Refusal::UnusedByte),
+        before(Refusal::Value, Refusal::Selector),
+        before(Refusal::Value, Refusal::Address),
+        before(Refusal::Value, Refusal::Direction),
+        before(Refusal::Value, Refusal::TickBits),
+        before(Refusal::Value, Refusal::Vertical),
+        before(Refusal::Kind, Refusal::UnusedByte),
+        before(Refusal::UnusedByte, Refusal::Selector),
+        before(Refusal::UnusedByte, Refusal::Address),
+        before(Refusal::UnusedByte, Refusal::Direction),
+        before(Refusal::UnusedByte, Refusal::TickBits),
+        before(Refusal::UnusedByte, Refusal::Vertical),
+    ],
+};
+
+/// Save into a lent buffer: 21, 25, then 31.
+pub static SAVES: Table = Table {
+    title: "saves into a lent buffer",
+    rows: &[
+        ACCEPTED,
+        row(Refusal::SnapshotChip, "state's chip not built"),
+        row(Refusal::Value, "state's value above its largest"),
+        row(Refusal::EndBuffer, "buffer"),
+        before(Refusal::SnapshotChip, Refusal::Value),
+        before(Refusal::SnapshotChip, Refusal::EndBuffer),
+        before(Refusal::Value, Refusal::EndBuffer),
+    ],
+};
+
+/// Restore: 20 to 25.
+pub static RESTORES: Table = Table {
+    title: "restores",
+    rows: &[
+        ACCEPTED,
+        row(Refusal::SnapshotShort, "snapshot under 3 bytes"),
+        row(Refusal::SnapshotChip, "snapshot's chip"),
+        row(Refusal::SnapshotCount, "snapshot's count"),
+        row(Refusal::SnapshotLength, "snapshot's length"),
+        row(Refusal::Place, "place"),
+        row(Refusal::Value, "value"),
+    ],
+};

@@ -1,0 +1,342 @@
+//! Plays the classes and keeps count: what is tried once, and what is tried
+//! anew in each round.
+
+use crate::calls::classes as calls;
+use crate::calls::drive::{self, Batch};
+use crate::calls::record::{Record, TABLES};
+use crate::case::{claimed_count, described, Case};
+use crate::classes::{Class, Sweep, RANDOM, SWEEPS};
+use crate::library::{lacks, Call, Outcome};
+use crate::replay::{self, Input, INPUTS};
+use crate::report::{Failure, Report, Subject, RUNS};
+use crate::sheets::{Sheet, SHEETS};
+use crate::shrink;
+use crate::shuffle::{Shuffle, SHUFFLES};
+use kit::{hexadecimal, Random};
+use model::ANSWER_BYTES;
+use std::path::{Path, PathBuf};
+
+/// Tries that may be spent on making one failing case small.
+const TRIES_FOR_ONE: usize = 4_000;
+/// The same where each try runs a program.
+const RUNS_FOR_ONE: usize = 300;
+
+/// A pair whose ticks differ, so the painting condition is seen to matter.
+const CONDITION_MATTERS: &str = "demand 3: painting not kept, a tick differs";
+const CONDITION_HELD: &str = "demand 3: painting kept, ticks compared";
+
+/// The proved programs that are compared beside the library.
+#[derive(Default)]
+pub struct Programs {
+    /// The printing program.
+    pub replay: Option<PathBuf>,
+    /// The program that plays calls on a state.
+    pub calls: Option<PathBuf>,
+}
+
+pub struct Comparison {
+    pub report: Report,
+    pub seed: u64,
+    /// Names each class and round on standard error.
+    pub trace: bool,
+    /// What is left of the tries for making failing cases small.
+    pub tries: usize,
+    /// Classes of a call that the library lacks are left out and don't fail.
+    pub may_lack: bool,
+}
+
+impl Comparison {
+    /// A random source for one class in one round: a class's cases don't
+    /// depend on which other classes there are.
+    fn random(&self, name: &str, round: u64) -> Random {
+        if self.trace {
+            eprintln!("round {round}: {name}");
+        }
+        let mut seed = self.seed ^ round.wrapping_mul(0xA076_1D64_78BD_642F);
+        for byte in name.bytes() {
+            seed = Random::seeded(seed ^ u64::from(byte)).next();
+        }
+        Random::seeded(seed)
+    }
+
+    /// Whether a class can be tried; if the library lacks its call, the class
+    /// is left out or fails.
+    fn begins(&mut self, name: &'static str, call: Call) -> bool {
+        self.report.expect(name);
+        if call.is_there() {
+            return true;
+        }
+        if self.may_lack {
+            self.report.left_out(name);
+        } else {
+            self.report.impossible(name, &lacks(call));
+        }
+        false
+    }
+
+    /// Makes a case small with what one failure may spend of the tries.
+    fn shrunk<T>(&mut self, most: usize, shrink: impl FnOnce(&mut usize) -> T) -> T {
+        let spent = self.tries.min(most);
+        let mut left = spent;
+        let small = shrink(&mut left);
+        self.tries -= spent - left;
+        small
+    }
+
+    /// One case: library and model must agree on everything.
+    fn compare(&mut self, name: &'static str, case: &Case) {
+        match case.agreed() {
+            Ok(outcome) => {
+                self.report.checked(name);
+                self.count_refusals(&outcome, claimed_count(&case.log));
+            }
+            Err(_) => self.differs(name, case),
+        }
+    }
+
+    /// Counts the refusals that an agreed run shows.
+    fn count_refusals(&mut self, outcome: &Outcome, events: usize) {
+        let refusal = outcome.result >> 16;
+        self.report.count(&RUNS, (refusal, 0));
+        if refusal == 0 {
+            for answer in outcome.answers().chunks(ANSWER_BYTES).take(events) {
+                if answer[0] != 0 {
+                    self.report.count(&RUNS, (answer[0].into(), 0));
+                }
+            }
+        }
+    }
+
+    fn differs(&mut self, name: &'static str, case: &Case) {
+        let small = self.shrunk(TRIES_FOR_ONE, |tries| {
+            shrink::shrunk(case, tries, &mut |case| case.differs())
+        });
+        let what = small.agreed().err().unwrap_or_default();
+        self.failed(name, what, &small);
+    }
+
+    fn failed(&mut self, name: &'static str, what: String, case: &Case) {
+        let failure = Failure {
+            what,
+            size: case.size(),
+            described: described(case),
+        };
+        self.report.failed(name, Subject::Library, failure);
+    }
+
+    fn random_class(&mut self, class: &Class, round: u64) {
+        if !self.begins(class.name, Call::Run) {
+            return;
+        }
+        let mut random = self.random(class.name, round);
+        for _ in 0..class.cases {
+            if self.report.has_failed(class.name) {
+                return;
+            }
+            self.compare(class.name, &(class.make)(&mut random));
+        }
+    }
+
+    fn sweep(&mut self, sweep: &Sweep) {
+        if !self.begins(sweep.name, Call::Run) {
+            return;
+        }
+        let mut random = self.random(sweep.name, 0);
+        for case in (sweep.cases)(&mut random) {
+            if self.report.has_failed(sweep.name) {
+                return;
+            }
+            self.compare(sweep.name, &case);
+        }
+    }
+
+    /// Each example by the papers, and against the model.
+    fn sheet(&mut self, sheet: &Sheet) {
+        if !self.begins(sheet.name, Call::Run) {
+            return;
+        }
+        for example in (sheet.examples)() {
+            if self.report.has_failed(sheet.name) {
+                return;
+            }
+            let case = example.case();
+            match example.wrong() {
+                None => self.compare(sheet.name, &case),
+                // The model is right by the papers, so the case can shrink.
+                Some(_) if case.differs() => self.differs(sheet.name, &case),
+                Some(wrong) => {
+                    let what = format!("{}: {wrong}", example.name);
+                    self.failed(sheet.name, what, &case);
+                }
+            }
+        }
+    }
+
+    fn shuffles(&mut self, shuffle: &Shuffle, round: u64) {
+        if !self.begins(shuffle.name, Call::Run) {
+            return;
+        }
+        let mut random = self.random(shuffle.name, round);
+        for _ in 0..shuffle.pairs {
+            if self.report.has_failed(shuffle.name) {
+                return;
+            }
+            let pair = (shuffle.make)(&mut random);
+            match pair.check() {
+                Ok(held) => {
+                    self.report.checked(shuffle.name);
+                    if held.painting_kept {
+                        self.report.checked(CONDITION_HELD);
+                    }
+                    if held.ticks_differ {
+                        self.report.checked(CONDITION_MATTERS);
+                    }
+                }
+                Err(_) => {
+                    let small = self.shrunk(self.tries, |tries| pair.shrunk(tries));
+                    let failure = Failure {
+                        what: small.check().err().unwrap_or_default(),
+                        size: small.size(),
+                        described: small.described(),
+                    };
+                    self.report.failed(shuffle.name, Subject::Library, failure);
+                }
+            }
+        }
+    }
+
+    fn replays(&mut self, program: &Path, input: &Input) {
+        self.report.expect(input.name);
+        let mut random = self.random(input.name, 0);
+        for number in 0..input.inputs {
+            let (bytes, piece) = (input.make)(&mut random, number);
+            if replay::wrong(program, &bytes, piece).is_none() {
+                self.report.checked(input.name);
+                continue;
+            }
+            let small = self.shrunk(RUNS_FOR_ONE, |tries| {
+                replay::shrunk(program, &bytes, piece, tries)
+            });
+            let failure = Failure {
+                what: replay::wrong(program, &small, piece).unwrap_or_default(),
+                size: small.len(),
+                described: replay::described(&small),
+            };
+            self.report.failed(input.name, Subject::Replay, failure);
+            return;
+        }
+    }
+
+    /// A run of the program `calls`: every record must be right.
+    fn calls(&mut self, name: &'static str, program: &Path, batch: &Batch) {
+        let Some((number, what)) = batch.wrong(program) else {
+            // A batch of no records is a case of its own.
+            for _ in 0..batch.records.len().max(1) {
+                self.report.checked(name);
+            }
+            for record in &batch.records {
+                for shown in record.shown() {
+                    self.report.count(record.table(), shown);
+                }
+            }
+            return;
+        };
+        let failure = match batch.records.get(number) {
+            Some(record) => self.failed_call(program, record, what),
+            None => Failure {
+                what,
+                size: batch.input().len(),
+                described: format!("  input {}\n", hexadecimal(&batch.input())),
+            },
+        };
+        self.report.failed(name, Subject::Calls, failure);
+    }
+
+    /// A record that is wrong, made small if it is wrong by itself.
+    fn failed_call(&mut self, program: &Path, record: &Record, what: String) -> Failure {
+        let (small, what) = match drive::wrong_alone(program, record) {
+            None => (
+                record.clone(),
+                format!("{what}, only behind the records before it"),
+            ),
+            Some(_) => {
+                let small =
+                    self.shrunk(RUNS_FOR_ONE, |tries| drive::shrunk(program, record, tries));
+                let what = drive::wrong_alone(program, &small).unwrap_or(what);
+                (small, what)
+            }
+        };
+        // Records of one call are equally long: bytes that are 0 don't count.
+        let bytes = small.bytes();
+        Failure {
+            what,
+            size: bytes.iter().filter(|&&byte| byte != 0).count(),
+            described: drive::described(&small),
+        }
+    }
+
+    fn call_class(&mut self, program: &Path, class: &calls::Class, round: u64) {
+        self.report.expect(class.name);
+        if self.report.has_failed(class.name) {
+            return;
+        }
+        let mut random = self.random(class.name, round);
+        let records = (0..class.records).map(|number| (class.make)(&mut random, number));
+        let batch = Batch::whole(records.collect());
+        self.calls(class.name, program, &batch);
+    }
+
+    fn call_sweep(&mut self, program: &Path, sweep: &calls::Sweep) {
+        self.report.expect(sweep.name);
+        let mut random = self.random(sweep.name, 0);
+        for batch in (sweep.batches)(&mut random) {
+            if self.report.has_failed(sweep.name) {
+                return;
+            }
+            self.calls(sweep.name, program, &batch);
+        }
+    }
+
+    /// Everything that is tried once.
+    pub fn once(&mut self, programs: &Programs) {
+        if Call::Run.is_there() || !self.may_lack {
+            self.report.expect_outcomes(&RUNS);
+        }
+        for sheet in SHEETS {
+            self.sheet(sheet);
+        }
+        for sweep in SWEEPS {
+            self.sweep(sweep);
+        }
+        if let Some(replay) = &programs.replay {
+            for input in INPUTS {
+                self.replays(replay, input);
+            }
+        }
+        if let Some(program) = &programs.calls {
+            for table in TABLES {
+                self.report.expect_outcomes(table);
+            }
+            for sweep in calls::SWEEPS {
+                self.call_sweep(program, sweep);
+            }
+        }
+    }
+
+    /// Everything that is tried anew in each round.
+    pub fn round(&mut self, programs: &Programs, round: u64) {
+        for class in RANDOM {
+            self.random_class(class, round);
+        }
+        for shuffle in SHUFFLES {
+            self.shuffles(shuffle, round);
+        }
+        self.begins(CONDITION_HELD, Call::Run);
+        self.begins(CONDITION_MATTERS, Call::Run);
+        if let Some(program) = &programs.calls {
+            for class in calls::RANDOM {
+                self.call_class(program, class, round);
+            }
+        }
+    }
+}

@@ -1,0 +1,140 @@
+//! The built chips: selectors, places, and which bytes and bits of an operand
+//! they use. Copied from document 01.
+//!
+//! Each table names every chip that it is for. A chip that isn't built has no
+//! row, and asking for it is a fault of the test.
+
+use model::kind;
+
+/// The chip bytes of the chips that are built.
+pub const CHIPS: [u8; 2] = [1, 2];
+
+/// A chip byte that no chip has, where one example is wanted.
+pub const NOT_BUILT: u8 = 9;
+
+/// Chip 1 selectors, 2 x C1 + C0.
+pub mod c {
+    pub const ADDRESS: u8 = 0;
+    pub const PALETTE: u8 = 1;
+    pub const CONTROL: u8 = 2;
+    pub const OVERLAY: u8 = 3;
+}
+
+/// Chip 2 selectors, 2 x RS1 + RS0.
+pub mod rs {
+    pub const WRITE_MODE: u8 = 0;
+    pub const CLT: u8 = 1;
+    pub const PIXEL_MASK: u8 = 2;
+    pub const READ_MODE: u8 = 3;
+}
+
+/// Place numbers of chip 1.
+pub mod p1 {
+    pub const OVERLAY_0: usize = 768;
+    pub const ADDRESS: usize = 780;
+    pub const POSITION: usize = 781;
+    pub const HELD_RED: usize = 782;
+    pub const HELD_GREEN: usize = 783;
+    pub const READ_MASK: usize = 784;
+    pub const BLINK_MASK: usize = 785;
+    pub const COMMAND: usize = 786;
+    pub const TEST: usize = 787;
+    pub const BLINK_COUNT: usize = 788;
+    pub const COUNT: usize = 789;
+}
+
+/// Place numbers of chip 2.
+pub mod p2 {
+    pub const ADDRESS: usize = 768;
+    pub const POSITION: usize = 769;
+    pub const DIRECTION: usize = 770;
+    pub const HELD_RED: usize = 771;
+    pub const HELD_GREEN: usize = 772;
+    pub const MASK: usize = 773;
+    pub const COUNT: usize = 774;
+}
+
+/// The chip bytes that no chip has.
+pub fn not_built() -> impl Iterator<Item = u8> {
+    (0..=255).filter(|chip| !CHIPS.contains(chip))
+}
+
+/// The built chips in turn, one for each round of a test.
+pub fn chip_of_round(round: usize) -> u8 {
+    CHIPS[round % CHIPS.len()]
+}
+
+/// The built chips but this one.
+pub fn other_chips(chip: u8) -> Vec<u8> {
+    CHIPS.into_iter().filter(|&other| other != chip).collect()
+}
+
+/// How many places a chip has.
+pub fn place_count(chip: u8) -> usize {
+    match chip {
+        1 => p1::COUNT,
+        2 => p2::COUNT,
+        _ => no_such_chip(chip),
+    }
+}
+
+/// The place of a chip's address; its position follows.
+pub fn address_place(chip: u8) -> usize {
+    match chip {
+        1 => p1::ADDRESS,
+        2 => p2::ADDRESS,
+        _ => no_such_chip(chip),
+    }
+}
+
+/// The largest value of a place.
+pub fn largest(chip: u8, place: usize) -> u8 {
+    assert!(
+        place < place_count(chip),
+        "chip {chip} has no place {place}"
+    );
+    match (chip, place) {
+        (1, p1::POSITION) => 2,
+        (1, p1::BLINK_COUNT) => 127,
+        (1, _) => 255,
+        (2, 0..=767 | p2::HELD_RED | p2::HELD_GREEN) => 63,
+        (2, p2::POSITION) => 2,
+        (2, p2::DIRECTION) => 1,
+        (2, _) => 255,
+        _ => no_such_chip(chip),
+    }
+}
+
+/// The highest kind byte that a chip's events have.
+pub fn highest_kind(chip: u8) -> u8 {
+    match chip {
+        1 | 2 => kind::SAVE,
+        _ => no_such_chip(chip),
+    }
+}
+
+/// The operand bytes that an event of this kind uses.
+pub fn used_bytes(chip: u8, kind: u8) -> &'static [usize] {
+    match (chip, kind) {
+        (1 | 2, kind::WRITE) => &[0, 1],
+        (1 | 2, kind::READ) => &[0],
+        (1, kind::TICK) => &[0, 1, 2, 3, 4, 5, 6, 7],
+        (2, kind::TICK) => &[0, 7],
+        (1 | 2, kind::VERTICAL | kind::SAVE) => &[],
+        (1 | 2, _) => panic!("chip {chip} has no events of kind {kind}"),
+        _ => no_such_chip(chip),
+    }
+}
+
+/// The bytes of a tick's operand that have undefined bits, and those bits.
+pub fn undefined_tick_bits(chip: u8) -> &'static [(usize, u8)] {
+    match chip {
+        1 => &[(5, 0xE0), (6, 0xE0), (7, 0xFC)],
+        2 => &[(7, 0xFE)],
+        _ => no_such_chip(chip),
+    }
+}
+
+pub(crate) fn no_such_chip(chip: u8) -> ! {
+    panic!("chip {chip} isn't built")
+}

@@ -1,0 +1,24 @@
+//! What the second model's tests, the sequences and the comparison share: a
+//! random source, tables of the chips, builders for events, logs and
+//! snapshots, random states and logs, and shuffles.
+//!
+//! The tables are copied from document 01 and not from the model, so that the
+//! model's tests hold the model to them. Nothing of crates/ is used.
+
+#![forbid(unsafe_code)]
+
+mod bytes;
+mod chips;
+mod events;
+mod generate;
+mod random;
+mod shuffle;
+
+pub use bytes::{hexadecimal, log_bytes, nonzero, snapshot_bytes};
+pub use chips::{address_place, chip_of_round, highest_kind, largest, not_built};
+pub use chips::{c, p1, p2, rs, undefined_tick_bits, used_bytes, CHIPS, NOT_BUILT};
+pub use chips::{other_chips, place_count};
+pub use events::{is_access, is_display, is_save, is_tick, only, Sort};
+pub use events::{read, save, tick, vertical, write};
+pub use random::Random;
+pub use shuffle::{before_painting, free_shuffle, painting_shuffle, riffle, with_saves};

@@ -6,6 +6,8 @@
 //! compare --time [--seed S]
 //! compare --write DIR [--seed S]
 
+use compare::calls::classes;
+use compare::calls::record::Record;
 use compare::comparison::{Comparison, Programs};
 use compare::library::{lacks, Call};
 use compare::report::Report;
@@ -100,12 +102,27 @@ fn compared(options: &Options) -> bool {
 /// Writes the sample logs, and what the model prints for each, as NAME.log and
 /// NAME.txt.
 fn write_samples(seed: u64, directory: &Path) -> io::Result<()> {
-    fs::create_dir_all(directory)?;
-    for (name, log) in replay::samples(&mut Random::seeded(seed)) {
-        fs::write(directory.join(format!("{name}.log")), &log)?;
-        fs::write(directory.join(format!("{name}.txt")), model::printed(&log))?;
+    let random = &mut Random::seeded(seed);
+    for (name, log) in replay::samples(random) {
+        write_sample(
+            &directory.join("replay"),
+            &name,
+            &log,
+            &model::printed(&log),
+        )?;
+    }
+    for (name, records) in classes::samples(random) {
+        let input: Vec<u8> = records.iter().flat_map(Record::bytes).collect();
+        let output: String = records.iter().map(Record::printed).collect();
+        write_sample(&directory.join("calls"), &name, &input, &output)?;
     }
     Ok(())
+}
+
+fn write_sample(directory: &Path, name: &str, input: &[u8], output: &str) -> io::Result<()> {
+    fs::create_dir_all(directory)?;
+    fs::write(directory.join(format!("{name}.in")), input)?;
+    fs::write(directory.join(format!("{name}.out")), output)
 }
 
 fn timed(seed: u64) -> bool {

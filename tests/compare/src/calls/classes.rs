@@ -58,6 +58,19 @@ pub const RANDOM: &[Class] = &[
     class("calls: restores of any bytes", 60, any_bytes),
 ];
 
+/// Records for a run without proof, which an interpreter plays too: some of each
+/// class.
+pub fn samples(random: &mut Random) -> Vec<(String, Vec<Record>)> {
+    const RECORDS: usize = 8;
+    let mut samples = Vec::new();
+    for class in RANDOM {
+        let records = (0..RECORDS).map(|i| (class.make)(random, i)).collect();
+        let name = class.name.trim_start_matches("calls: ").replace(',', "");
+        samples.push((name.replace(' ', "-"), records));
+    }
+    samples
+}
+
 fn event_record(planted: Planted) -> Record {
     Record::Event {
         state: planted.state,

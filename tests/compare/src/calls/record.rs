@@ -162,6 +162,12 @@ impl Record {
         }
     }
 
+    /// What the model prints for it.
+    pub fn printed(&self) -> String {
+        let [first, second] = self.expected().lines;
+        format!("{first}\n{second}\n")
+    }
+
     /// What is wrong with the two lines that the program prints, if anything.
     pub fn wrong(&self, printed: [&str; 2]) -> Option<String> {
         let Expected { lines, .. } = self.expected();

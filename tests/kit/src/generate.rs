@@ -136,11 +136,30 @@ impl Random {
     /// written, or a register that the display looks at.
     pub fn burst(&mut self, chip: u8) -> Vec<Event> {
         match self.below(9) {
-            0 | 1 => self.colour_write(chip),
-            2 => self.colour_read(chip),
+            0 | 1 => {
+                let triple = self.colour_write(chip);
+                self.interrupted(triple)
+            }
+            2 => {
+                let triple = self.colour_read(chip);
+                self.interrupted(triple)
+            }
             3 | 4 => self.register_write(chip),
             _ => vec![self.access()],
         }
+    }
+
+    /// Sometimes with another access in the middle that sets no address.
+    fn interrupted(&mut self, mut burst: Vec<Event>) -> Vec<Event> {
+        if self.one_in(3) {
+            let between = match self.below(5) {
+                0 => write(2, self.byte()),
+                _ => read(self.up_to(3)),
+            };
+            let at = 1 + self.below(burst.len() - 1);
+            burst.insert(at, between);
+        }
+        burst
     }
 
     /// An address of a colour, often one that a tick shows and that both

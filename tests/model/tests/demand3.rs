@@ -125,21 +125,21 @@ fn assert_well_mixed(census: &Census, chip: u8) {
 
 #[test]
 fn free_shuffles_on_chip_1_keep_accesses_and_end() {
-    let census = census_of(0xD3_0001, 1, 300, 75, false);
+    let census = census_of(0xD3_0001, 1, 300, 85, false);
     assert_eq!(census.pairs, 300);
     assert_well_mixed(&census, 1);
 }
 
 #[test]
 fn free_shuffles_on_chip_2_keep_accesses_and_end() {
-    let census = census_of(0xD3_0002, 2, 300, 75, false);
+    let census = census_of(0xD3_0002, 2, 300, 85, false);
     assert_eq!(census.pairs, 300);
     assert_well_mixed(&census, 2);
 }
 
 #[test]
 fn painting_shuffles_on_chip_1_keep_ticks_too() {
-    let census = census_of(0xD3_0003, 1, 300, 75, true);
+    let census = census_of(0xD3_0003, 1, 300, 85, true);
     assert_eq!(census.pairs_breaking_the_condition, 0);
     assert_eq!(census.pairs_with_other_ticks, 0);
     assert_well_mixed(&census, 1);
@@ -147,7 +147,7 @@ fn painting_shuffles_on_chip_1_keep_ticks_too() {
 
 #[test]
 fn painting_shuffles_on_chip_2_keep_ticks_too() {
-    let census = census_of(0xD3_0004, 2, 300, 75, true);
+    let census = census_of(0xD3_0004, 2, 300, 85, true);
     assert_eq!(census.pairs_breaking_the_condition, 0);
     assert_eq!(census.pairs_with_other_ticks, 0);
     assert_well_mixed(&census, 2);
@@ -156,7 +156,7 @@ fn painting_shuffles_on_chip_2_keep_ticks_too() {
 #[test]
 fn the_painting_condition_matters() {
     for (seed, chip) in [(0xD3_0005, 1), (0xD3_0006, 2)] {
-        let census = census_of(seed, chip, 100, 75, false);
+        let census = census_of(seed, chip, 100, 85, false);
         // Only pairs that break the condition can have other ticks, and many
         // of them do (check_pair has compared the rest).
         assert!(census.pairs_breaking_the_condition > 75);

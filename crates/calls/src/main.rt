@@ -1,5 +1,5 @@
 // Plays calls on a state, each by itself, from records on standard input, and prints all that comes back: numbers, answers, places, and every byte of a lent buffer.
-// A record starts with its call: 0 event, 1 save, 2 restore. Any other byte, and the input's end, ends the program.
+// A record starts with its call: 0 event, 1 save, 2 restore. Any other byte, a room or a length over 4,096, and the input's end end the program.
 // A state is its chip byte and all places of chip 1 and of chip 2, whatever their values. An event has a state, a kind and 8 operand bytes; a save a state, the room that is lent (2 bytes, low first) and the byte that fills the buffer; a restore the snapshot's length (2 bytes) and its bytes.
 ghost use mathlib.Core.Path.{_≡_};
 ghost use Prim.Native.Nat.{_+_, _*_, _≤_, _<_};
@@ -93,10 +93,9 @@ fn play_event() {
 }
 
 // Saves into the first room bytes of a buffer. The refusal, and the length.
-fn save_into(chip: Chip, buffer: &mut [u8], room: usize) {
-    if buffer.len() < room {
-        return;
-    }
+fn save_into(chip: Chip, buffer: &mut [u8], room: usize)
+    requires { ⌜ room ≤ length (now buffer) ⌝ }
+{
     let saved = chip::save(chip, &mut buffer[0..room]);
     io::print_decimal(STDOUT_FILENO, saved.refusal as u64);
     io::write_all(STDOUT_FILENO, b" ");
@@ -105,32 +104,36 @@ fn save_into(chip: Chip, buffer: &mut [u8], room: usize) {
 }
 
 // The refusal and the length, and the whole buffer, of which only the room was lent.
-fn play_save() {
+fn play_save() -> bool {
     let chip = read_chip();
     let mut call = [0u8; 3];
     io::read_full(STDIN_FILENO, &mut call);
+    let room = word(&call);
+    if ROOM < room {
+        return false;
+    }
     let filling = call[2];
     let mut buffer = [filling; ROOM];
-    save_into(chip, &mut buffer, word(&call));
+    save_into(chip, &mut buffer, room);
     print_digits(&buffer);
     end_line();
+    true
 }
 
-// Reads the first length bytes of a buffer.
-fn read_part(bytes: &mut [u8], length: usize) {
-    if bytes.len() < length {
-        return;
-    }
-    io::read_full(STDIN_FILENO, &mut bytes[0..length]);
+// Reads a buffer's bytes up to number to.
+fn read_part(bytes: &mut [u8], to: usize)
+    requires { ⌜ to ≤ length (now bytes) ⌝ }
+{
+    io::read_full(STDIN_FILENO, &mut bytes[0..to]);
 }
 
 // The refusal, and the state.
-fn play_restore() {
+fn play_restore() -> bool {
     let mut call = [0u8; 2];
     io::read_full(STDIN_FILENO, &mut call);
     let length = word(&call);
     if ROOM < length {
-        return;
+        return false;
     }
     let mut bytes = [0u8; ROOM];
     read_part(&mut bytes, length);
@@ -138,6 +141,7 @@ fn play_restore() {
     io::print_decimal(STDOUT_FILENO, restored.refusal as u64);
     end_line();
     print_chip(restored.chip);
+    true
 }
 
 // Plays one record; false where there is none.
@@ -152,12 +156,10 @@ fn play_next() -> bool {
         return true;
     }
     if call[0] == 1 {
-        play_save();
-        return true;
+        return play_save();
     }
     if call[0] == 2 {
-        play_restore();
-        return true;
+        return play_restore();
     }
     false
 }

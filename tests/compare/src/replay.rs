@@ -3,8 +3,8 @@
 use crate::case::Case;
 use crate::damage::{damaged_log, LOG_FAULTS};
 use crate::program::{printed_by, WHOLE};
-use kit::{hexadecimal, log_bytes, Random, CHIPS};
-use model::MOST_EVENTS;
+use kit::{hexadecimal, log_bytes, read, write, Random, CHIPS};
+use model::{Event, MOST_EVENTS};
 use std::path::Path;
 
 /// A sort of input, and how many of them are tried.
@@ -77,6 +77,28 @@ fn in_pieces(random: &mut Random, number: usize) -> (Vec<u8>, usize) {
     (bytes, random.pick(&[1, 2, 3, 7, 19, 4097]))
 }
 
+/// Each register read at each position of a triple, which is then finished and
+/// read back.
+fn reads_inside_triples() -> Vec<Event> {
+    let mut events = Vec::new();
+    for selector in 0..=3 {
+        for position in 0..3 {
+            let address = 10 * selector + position;
+            events.push(write(0, address));
+            for component in 0..3 {
+                if component == position {
+                    events.push(read(selector));
+                }
+                events.push(write(1, 1 + address + component));
+            }
+            for set in [write(0, address), write(3, address)] {
+                events.extend([set, read(1), read(1), read(1)]);
+            }
+        }
+    }
+    events
+}
+
 /// Logs for a run without proof, which an interpreter plays too: for each chip
 /// an accepted log and one of no events, whose end snapshot is the fresh
 /// chip's, then logs with each refusal.
@@ -86,6 +108,8 @@ pub fn samples(random: &mut Random) -> Vec<(String, Vec<u8>)> {
         let events = random.events(chip, 1_000);
         samples.push((format!("accepted-chip-{chip}"), log_bytes(chip, &events)));
         samples.push((format!("empty-chip-{chip}"), log_bytes(chip, &[])));
+        let reads = reads_inside_triples();
+        samples.push((format!("triples-chip-{chip}"), log_bytes(chip, &reads)));
     }
     for fault in LOG_FAULTS {
         for chip in CHIPS {

@@ -7,8 +7,9 @@ use crate::calls::faults::{OF_THE_CHIP, OF_THE_FORM};
 use crate::calls::record::{Record, Whole, BUFFER_BYTES, CALLS};
 use crate::classes::scramble;
 use crate::damage::{damaged_snapshot, snapshot_with_two_faults, SNAPSHOT_FAULTS};
-use kit::{largest, nonzero, other_chips, place_count, save, snapshot_bytes, Random, CHIPS};
-use model::{Refusal, END_BUFFER_BYTES};
+use kit::{address_place, highest_kind, largest, nonzero, other_chips, p2, place_count};
+use kit::{read, save, snapshot_bytes, write, Random, CHIPS};
+use model::{Event, Refusal, END_BUFFER_BYTES};
 
 /// A class of random records.
 pub struct Class {
@@ -59,7 +60,7 @@ pub const RANDOM: &[Class] = &[
 ];
 
 /// Records for a run without proof, which an interpreter plays too: some of each
-/// class.
+/// class, and two sweeps.
 pub fn samples(random: &mut Random) -> Vec<(String, Vec<Record>)> {
     const RECORDS: usize = 8;
     let mut samples = Vec::new();
@@ -67,6 +68,15 @@ pub fn samples(random: &mut Random) -> Vec<(String, Vec<Record>)> {
         let records = (0..RECORDS).map(|i| (class.make)(random, i)).collect();
         let name = class.name.trim_start_matches("calls: ").replace(',', "");
         samples.push((name.replace(' ', "-"), records));
+    }
+    // So few at a time that an interpreter comes to their end.
+    const AT_A_TIME: usize = 40;
+    for (name, records) in [
+        ("every-operand-byte", every_operand_byte(random)),
+        ("every-selector", every_selector(random)),
+    ] {
+        let parts = records.chunks(AT_A_TIME).enumerate();
+        samples.extend(parts.map(|(i, part)| (format!("{name}-{i}"), part.to_vec())));
     }
     samples
 }
@@ -244,6 +254,14 @@ pub const SWEEPS: &[Sweep] = &[
         batches: |random| vec![Batch::whole(every_chip_byte(random))],
     },
     Sweep {
+        name: "calls: every operand byte by itself",
+        batches: |random| vec![Batch::whole(every_operand_byte(random))],
+    },
+    Sweep {
+        name: "calls: every selector at every position",
+        batches: |random| vec![Batch::whole(every_selector(random))],
+    },
+    Sweep {
         name: "calls: every room of a save",
         batches: |random| vec![Batch::whole(every_room(random))],
     },
@@ -292,6 +310,53 @@ fn every_chip_byte(random: &mut Random) -> Vec<Record> {
     records
 }
 
+/// A state of this chip with no place 0.
+fn full(random: &mut Random, chip: u8) -> Whole {
+    let mut state = Whole::fresh(chip);
+    *state.part(chip) = random.full_places(chip);
+    state
+}
+
+/// One operand byte set, least and largest, in events of every kind and of some
+/// that no chip has.
+fn every_operand_byte(random: &mut Random) -> Vec<Record> {
+    let mut records = Vec::new();
+    for chip in CHIPS {
+        for kind in (0..=highest_kind(chip) + 1).chain([200, 255]) {
+            for (number, value) in (0..8).flat_map(|number| [(number, 1), (number, 255)]) {
+                let mut event = Event {
+                    kind,
+                    operand: [0; 8],
+                };
+                event.operand[number] = value;
+                let state = full(random, chip);
+                records.push(Record::Event { state, event });
+            }
+        }
+    }
+    records
+}
+
+/// Writes and reads at each position, chip 2 set for writing and for reading.
+fn every_selector(random: &mut Random) -> Vec<Record> {
+    let mut records = Vec::new();
+    for chip in CHIPS {
+        for (position, direction) in (0..3).flat_map(|position| [(position, 0), (position, 1)]) {
+            for selector in 0..=4 {
+                for event in [write(selector, random.byte()), read(selector)] {
+                    let mut state = full(random, chip);
+                    state.part(chip)[address_place(chip) + 1] = position;
+                    if chip == 2 {
+                        state.part(chip)[p2::DIRECTION] = direction;
+                    }
+                    records.push(Record::Event { state, event });
+                }
+            }
+        }
+    }
+    records
+}
+
 /// Rooms round the least that is accepted, round each chip's own longest
 /// snapshot, and at the ends.
 fn every_room(random: &mut Random) -> Vec<Record> {
@@ -305,8 +370,7 @@ fn every_room(random: &mut Random) -> Vec<Record> {
     for chip in CHIPS {
         for &room in &rooms {
             for fill in [0, 0xFF, random.byte()] {
-                let mut state = Whole::fresh(chip);
-                *state.part(chip) = random.full_places(chip);
+                let state = full(random, chip);
                 records.push(Record::Save { state, room, fill });
             }
         }

@@ -1,4 +1,4 @@
--- Laws on snapshots. Crates above cite RoundTrip and Valid; Stores and Pairs serve the proofs of this crate.
+-- Laws on snapshots. Crates above cite RoundTrip, Valid, Parts and Places; Stores and Pairs serve the proofs of this crate.
 pub mod Stores
 pub mod Pairs
 pub mod Valid

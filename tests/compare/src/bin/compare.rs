@@ -99,8 +99,8 @@ fn compared(options: &Options) -> bool {
     comparison.report.verdict()
 }
 
-/// Writes the sample logs, and what the model prints for each, as NAME.log and
-/// NAME.txt.
+/// Writes the samples as replay/NAME.in and calls/NAME.in, and what the model
+/// prints for each as NAME.out beside it.
 fn write_samples(seed: u64, directory: &Path) -> io::Result<()> {
     let random = &mut Random::seeded(seed);
     for (name, log) in replay::samples(random) {

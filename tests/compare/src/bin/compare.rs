@@ -5,6 +5,9 @@
 //! compare [--seconds N] [--seed S] [--replay PATH] [--calls PATH] [--tries N] [--may-lack] [--trace]
 //! compare --time [--seed S]
 //! compare --write DIR [--seed S]
+//!
+//! The classes of a program that isn't given fail, as do those of a call that
+//! the library lacks; with --may-lack they are named as left out.
 
 use compare::calls::classes;
 use compare::calls::record::Record;

@@ -1,5 +1,5 @@
-# What the scripts of this folder share. They source it: it goes to the
-# repository's root, counts what passed and what failed, and names a tool that
+# What the scripts of this folder and of tests/c share. They source it: it goes to
+# the repository's root, counts what passed and what failed, and names a tool that
 # is missing. Texts are bytes here, whatever the user's locale.
 # shellcheck shell=bash
 set -u

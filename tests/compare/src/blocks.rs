@@ -3,9 +3,8 @@
 //! README.md describes the language. Nothing here knows a chip's rules: what
 //! is right stands in the text.
 
-/// The bytes of an event, kind and operand, and of its answer.
-const EVENT_BYTES: usize = 9;
-pub const ANSWER_BYTES: usize = 18;
+use kit::{hexadecimal, ANSWER_BYTES, EVENT_BYTES};
+
 /// The end buffer's size where a block doesn't give it.
 const END_BUFFER: usize = 4096;
 /// A slip in a repeat count is found before it fills the memory.
@@ -253,8 +252,7 @@ impl Draft {
 }
 
 fn printed_line(bytes: &[u8]) -> String {
-    let digits = bytes.iter().map(|byte| format!("{byte:02x}"));
-    digits.chain(["\n".into()]).collect()
+    hexadecimal(bytes) + "\n"
 }
 
 fn once<T>(field: &mut Option<T>, value: T) -> Result<(), String> {
@@ -354,8 +352,8 @@ fn group(word: &str) -> Option<Vec<u8>> {
         None => (word, 1),
     };
     let bytes = match digits.split_once('-') {
-        Some((first, last)) => every_number(&hexadecimal(first)?, &hexadecimal(last)?)?,
-        None => hexadecimal(digits)?,
+        Some((first, last)) => every_number(&bytes_of(first)?, &bytes_of(last)?)?,
+        None => bytes_of(digits)?,
     };
     let fits = times > 0 && bytes.len().checked_mul(times)? <= MOST_BYTES;
     fits.then(|| bytes.repeat(times))
@@ -376,7 +374,7 @@ fn every_number(first: &[u8], last: &[u8]) -> Option<Vec<u8>> {
     Some(numbers.collect())
 }
 
-fn hexadecimal(digits: &str) -> Option<Vec<u8>> {
+fn bytes_of(digits: &str) -> Option<Vec<u8>> {
     let values: Option<Vec<u8>> = digits
         .chars()
         .map(|digit| digit.to_digit(16).map(|value| value as u8))

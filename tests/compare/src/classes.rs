@@ -270,7 +270,7 @@ fn every_selector(random: &mut Random) -> Vec<Case> {
     for chip in CHIPS {
         for selector in 0..=255 {
             for event in [write(selector, random.byte()), read(selector)] {
-                let snapshot = lively(random, chip, random_address(selector), selector % 3);
+                let snapshot = lively(random, chip, useful_address(selector), selector % 3);
                 cases.push(Case::exact(snapshot, log_bytes(chip, &[event]), random));
             }
         }
@@ -279,7 +279,7 @@ fn every_selector(random: &mut Random) -> Vec<Case> {
 }
 
 /// Addresses at which all of chip 1's selectors do something, in turn.
-fn random_address(number: u8) -> u8 {
+fn useful_address(number: u8) -> u8 {
     [2, 5, 3, 6][usize::from(number / 4 % 4)]
 }
 

@@ -41,7 +41,8 @@ pub struct Comparison {
     pub trace: bool,
     /// What is left of the tries for making failing cases small.
     pub tries: usize,
-    /// Classes of a call that the library lacks are left out and don't fail.
+    /// Classes of a call that the library lacks, and of a program that isn't
+    /// given, are left out and don't fail.
     pub may_lack: bool,
 }
 
@@ -59,19 +60,36 @@ impl Comparison {
         Random::seeded(seed)
     }
 
-    /// Whether a class can be tried; if the library lacks its call, the class
-    /// is left out or fails.
+    /// Whether a class can be tried: the library must have its call.
     fn begins(&mut self, name: &'static str, call: Call) -> bool {
         self.report.expect(name);
-        if call.is_there() {
-            return true;
+        if !call.is_there() {
+            self.lacking(name, &lacks(call));
         }
+        call.is_there()
+    }
+
+    /// The program that a class plays, which its option must have named.
+    fn program<'a>(
+        &mut self,
+        name: &'static str,
+        option: &str,
+        program: &'a Option<PathBuf>,
+    ) -> Option<&'a Path> {
+        self.report.expect(name);
+        if program.is_none() {
+            self.lacking(name, &format!("no {option}"));
+        }
+        program.as_deref()
+    }
+
+    /// A class that can't be tried is left out or fails.
+    fn lacking(&mut self, name: &'static str, why: &str) {
         if self.may_lack {
             self.report.left_out(name);
         } else {
-            self.report.impossible(name, &lacks(call));
+            self.report.impossible(name, why);
         }
-        false
     }
 
     /// Makes a case small with what one failure may spend of the tries.
@@ -205,8 +223,10 @@ impl Comparison {
         }
     }
 
-    fn replays(&mut self, program: &Path, input: &Input) {
-        self.report.expect(input.name);
+    fn replays(&mut self, programs: &Programs, input: &Input) {
+        let Some(program) = self.program(input.name, "--replay", &programs.replay) else {
+            return;
+        };
         let mut random = self.random(input.name, 0);
         for number in 0..input.inputs {
             let (bytes, piece) = (input.make)(&mut random, number);
@@ -275,8 +295,10 @@ impl Comparison {
         }
     }
 
-    fn call_class(&mut self, program: &Path, class: &calls::Class, round: u64) {
-        self.report.expect(class.name);
+    fn call_class(&mut self, programs: &Programs, class: &calls::Class, round: u64) {
+        let Some(program) = self.program(class.name, "--calls", &programs.calls) else {
+            return;
+        };
         if self.report.has_failed(class.name) {
             return;
         }
@@ -286,8 +308,10 @@ impl Comparison {
         self.calls(class.name, program, &batch);
     }
 
-    fn call_sweep(&mut self, program: &Path, sweep: &calls::Sweep) {
-        self.report.expect(sweep.name);
+    fn call_sweep(&mut self, programs: &Programs, sweep: &calls::Sweep) {
+        let Some(program) = self.program(sweep.name, "--calls", &programs.calls) else {
+            return;
+        };
         let mut random = self.random(sweep.name, 0);
         for batch in (sweep.batches)(&mut random) {
             if self.report.has_failed(sweep.name) {
@@ -308,18 +332,16 @@ impl Comparison {
         for sweep in SWEEPS {
             self.sweep(sweep);
         }
-        if let Some(replay) = &programs.replay {
-            for input in INPUTS {
-                self.replays(replay, input);
-            }
+        for input in INPUTS {
+            self.replays(programs, input);
         }
-        if let Some(program) = &programs.calls {
+        if programs.calls.is_some() || !self.may_lack {
             for table in TABLES {
                 self.report.expect_outcomes(table);
             }
-            for sweep in calls::SWEEPS {
-                self.call_sweep(program, sweep);
-            }
+        }
+        for sweep in calls::SWEEPS {
+            self.call_sweep(programs, sweep);
         }
     }
 
@@ -333,10 +355,8 @@ impl Comparison {
         }
         self.begins(CONDITION_HELD, Call::Run);
         self.begins(CONDITION_MATTERS, Call::Run);
-        if let Some(program) = &programs.calls {
-            for class in calls::RANDOM {
-                self.call_class(program, class, round);
-            }
+        for class in calls::RANDOM {
+            self.call_class(programs, class, round);
         }
     }
 }

@@ -1,9 +1,9 @@
 //! What the second model's tests, the sequences and the comparison share: a
-//! random source, tables of the chips, builders for events, logs and
-//! snapshots, random states and logs, and shuffles.
+//! random source, tables of the chips, sizes and limits, builders for events,
+//! logs and snapshots, random states and logs, and shuffles.
 //!
-//! The tables are copied from document 01 and not from the model, so that the
-//! model's tests hold the model to them. Nothing of crates/ is used.
+//! Tables, sizes and limits are copied from document 01 and not from the model,
+//! so that the model's tests hold the model to them. Nothing of crates/ is used.
 
 #![forbid(unsafe_code)]
 
@@ -11,6 +11,7 @@ mod bytes;
 mod chips;
 mod events;
 mod generate;
+mod numbers;
 mod random;
 mod shuffle;
 
@@ -20,5 +21,6 @@ pub use chips::{c, p1, p2, rs, undefined_tick_bits, used_bytes, CHIPS, NOT_BUILT
 pub use chips::{other_chips, place_count};
 pub use events::{is_access, is_display, is_save, is_tick, only, Sort};
 pub use events::{read, save, tick, vertical, write};
+pub use numbers::{ANSWER_BYTES, END_BYTES, EVENT_BYTES, LOG_HEADER_BYTES, MOST_EVENTS};
 pub use random::Random;
 pub use shuffle::{before_painting, free_shuffle, painting_shuffle, riffle, with_saves};

@@ -3,6 +3,7 @@
 
 use crate::common::{play, Bench};
 use kit::{c, log_bytes, p1, p2, read, rs, vertical, write};
+use kit::{ANSWER_BYTES, END_BYTES, EVENT_BYTES, LOG_HEADER_BYTES, MOST_EVENTS};
 use model::{read_log, run};
 
 #[test]
@@ -148,35 +149,35 @@ fn a_log_of_no_events_gives_the_start_snapshot_back() {
 #[test]
 fn the_limit_of_3000_events_is_accepted_and_3001_is_not() {
     // 2,999 vertical periods (23 x 128 + 55) and an address write.
-    let mut events = vec![vertical(); 2999];
+    let mut events = vec![vertical(); MOST_EVENTS - 1];
     events.push(write(c::ADDRESS, 6));
     let log = log_bytes(1, &events);
-    assert_eq!(log.len(), 27_005);
+    assert_eq!(log.len(), LOG_HEADER_BYTES + EVENT_BYTES * MOST_EVENTS);
     assert_eq!(log[1..5], [0xB8, 0x0B, 0, 0]);
-    let mut answers = vec![0xEE; 18 * 3000];
-    let mut end = vec![0xEE; 2370];
+    let mut answers = vec![0xEE; ANSWER_BYTES * MOST_EVENTS];
+    let mut end = vec![0xEE; END_BYTES];
     assert_eq!(run(&[1, 0, 0], &log, &mut answers, &mut end), 9);
-    assert_eq!(answers, vec![0; 18 * 3000]);
+    assert_eq!(answers, vec![0; ANSWER_BYTES * MOST_EVENTS]);
     assert_eq!(end[..9], [1, 2, 0, 0x0C, 0x03, 0x14, 0x03, 6, 55]);
 
     events.push(write(c::ADDRESS, 7));
     let log = log_bytes(1, &events);
-    let mut answers = vec![0xEE; 18 * 3001];
-    let mut end = vec![0xEE; 2370];
+    let mut answers = vec![0xEE; ANSWER_BYTES * (MOST_EVENTS + 1)];
+    let mut end = vec![0xEE; END_BYTES];
     let result = run(&[1, 0, 0], &log, &mut answers, &mut end);
     assert_eq!(result, 12 * 65_536);
-    assert_eq!(answers, vec![0xEE; 18 * 3001]);
-    assert_eq!(end, vec![0xEE; 2370]);
+    assert_eq!(answers, vec![0xEE; ANSWER_BYTES * (MOST_EVENTS + 1)]);
+    assert_eq!(end, vec![0xEE; END_BYTES]);
 }
 
 #[test]
 fn a_log_has_5_and_9n_bytes_and_no_other_length() {
-    for count in [0usize, 1, 2, 3, 10, 255, 256, 3000] {
-        let right = 5 + 9 * count;
-        for length in [right - 1, right, right + 1, right + 9] {
+    for count in [0usize, 1, 2, 3, 10, 255, 256, MOST_EVENTS] {
+        let right = LOG_HEADER_BYTES + EVENT_BYTES * count;
+        for length in [right - 1, right, right + 1, right + EVENT_BYTES] {
             let mut bytes = vec![0; length];
             bytes[0] = 2;
-            let number = if length < 5 {
+            let number = if length < LOG_HEADER_BYTES {
                 10
             } else {
                 bytes[1..5].copy_from_slice(&(count as u32).to_le_bytes());
@@ -198,13 +199,13 @@ fn each_answer_stands_at_18_times_its_index() {
     let events: Vec<_> = (0..60)
         .flat_map(|i| [write(c::ADDRESS, i), read(c::ADDRESS)])
         .collect();
-    let mut answers = vec![0xEE; 18 * 120];
-    let mut end = vec![0xEE; 2370];
+    let mut answers = vec![0xEE; ANSWER_BYTES * events.len()];
+    let mut end = vec![0xEE; END_BYTES];
     let result = run(&[1, 0, 0], &log_bytes(1, &events), &mut answers, &mut end);
     assert_eq!(result, 6);
-    let mut expected = vec![0; 18 * 120];
+    let mut expected = vec![0; ANSWER_BYTES * events.len()];
     for i in 0..60 {
-        expected[18 * (2 * i + 1) + 1] = i as u8;
+        expected[ANSWER_BYTES * (2 * i + 1) + 1] = i as u8;
     }
     assert_eq!(answers, expected);
 }

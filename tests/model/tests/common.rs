@@ -1,11 +1,8 @@
 //! What the test files share beside the kit: a bench around one state, a run
-//! with its own buffers, and a run of a program.
+//! with its own buffers, and a header that is refused.
 
-use kit::log_bytes;
+use kit::{log_bytes, ANSWER_BYTES, END_BYTES, MOST_EVENTS};
 use model::{event, kind, run, Answer, Event, Operand, State};
-use model::{ANSWER_BYTES, END_BUFFER_BYTES};
-use std::io::Write;
-use std::process::{Command, Stdio};
 
 /// One chip on a bench: events go in, answers come out, places can be seen.
 pub struct Bench {
@@ -43,7 +40,7 @@ impl Bench {
     /// A write's refusal or 0. A write answers nothing else.
     pub fn write(&mut self, selector: u8, byte: u8) -> u8 {
         let answer = self.event(kind::WRITE, [selector, byte, 0, 0, 0, 0, 0, 0]);
-        assert_eq!(answer[1..], [0; 17]);
+        assert_eq!(answer[1..], [0; ANSWER_BYTES - 1]);
         answer[0]
     }
 
@@ -56,7 +53,7 @@ impl Bench {
     /// A read's refusal (or 0) and its byte. A read answers nothing else.
     pub fn read(&mut self, selector: u8) -> (u8, u8) {
         let answer = self.event(kind::READ, [selector, 0, 0, 0, 0, 0, 0, 0]);
-        assert_eq!(answer[2..], [0; 16]);
+        assert_eq!(answer[2..], [0; ANSWER_BYTES - 2]);
         (answer[0], answer[1])
     }
 
@@ -68,7 +65,7 @@ impl Bench {
 
     pub fn vertical_periods(&mut self, count: usize) {
         for _ in 0..count {
-            assert_eq!(self.event(kind::VERTICAL, [0; 8]), [0; 18]);
+            assert_eq!(self.event(kind::VERTICAL, [0; 8]), [0; ANSWER_BYTES]);
         }
     }
 
@@ -84,7 +81,7 @@ impl Bench {
     pub fn show2(&mut self, pixel: u8) -> [u8; 3] {
         let answer = self.event(kind::TICK, [pixel, 0, 0, 0, 0, 0, 0, 1]);
         assert_eq!(answer[..3], [0, 1, 1]);
-        assert_eq!(answer[6..], [0; 12]);
+        assert_eq!(answer[6..], [0; ANSWER_BYTES - 6]);
         [answer[3], answer[4], answer[5]]
     }
 
@@ -124,7 +121,7 @@ pub struct Played {
 /// Runs a log that must be accepted.
 pub fn play(chip: u8, snapshot: &[u8], events: &[Event]) -> Played {
     let mut answers = vec![0xEE; ANSWER_BYTES * events.len()];
-    let mut end = vec![0xEE; END_BUFFER_BYTES];
+    let mut end = vec![0xEE; END_BYTES];
     let result = run(snapshot, &log_bytes(chip, events), &mut answers, &mut end);
     assert_eq!(result >> 16, 0);
     end.truncate(result as usize);
@@ -135,15 +132,9 @@ pub fn play(chip: u8, snapshot: &[u8], events: &[Event]) -> Played {
     Played { answers, end }
 }
 
-/// What a program prints for an input.
-pub fn output_of(program: &str, input: &[u8]) -> String {
-    let mut child = Command::new(program)
-        .stdin(Stdio::piped())
-        .stdout(Stdio::piped())
-        .spawn()
-        .unwrap();
-    child.stdin.take().unwrap().write_all(input).unwrap();
-    let output = child.wait_with_output().unwrap();
-    assert!(output.status.success());
-    String::from_utf8(output.stdout).unwrap()
+/// A log's header that claims one event more than a log may have; no event
+/// follows.
+pub fn header_over_the_limit(chip: u8) -> Vec<u8> {
+    let [a, b, c, d] = (MOST_EVENTS as u32 + 1).to_le_bytes();
+    vec![chip, a, b, c, d]
 }

@@ -7,7 +7,7 @@
 use crate::common::{play, Played};
 use kit::{before_painting, free_shuffle, painting_shuffle, with_saves, Random, Sort};
 use kit::{is_access, is_display, is_save, is_tick, log_bytes, only, p2, snapshot_bytes};
-use kit::{save as save_event, tick, vertical, write};
+use kit::{save as save_event, tick, vertical, write, ANSWER_BYTES, MOST_EVENTS};
 use model::{kind, painting_accesses, save, Answer, Event};
 use std::collections::BTreeMap;
 
@@ -33,7 +33,7 @@ impl Census {
         for answer in answers.iter().filter(|answer| answer[0] != 0) {
             *self.refused.entry(answer[0]).or_insert(0) += 1;
         }
-        let coloured = |answer: &&Answer| answer[0] == 0 && answer[3..] != [0; 15];
+        let coloured = |answer: &&Answer| answer[0] == 0 && answer[3..] != [0; ANSWER_BYTES - 3];
         self.ticks_with_colour += ticks.iter().filter(coloured).count();
     }
 }
@@ -172,12 +172,12 @@ fn logs_near_the_limit_shuffle_alike() {
         let mut census = Census::default();
         for _ in 0..3 {
             let snapshot = save(&random.state(chip)).unwrap();
-            let mut events = random.events_without_saves(chip, 2500);
+            let mut events = random.events_without_saves(chip, MOST_EVENTS - 500);
             let painting = painting_accesses(&snapshot, &log_bytes(chip, &events)).unwrap();
             let mut kept = painting_shuffle(&mut random, &events, &painting);
             let free = free_shuffle(&mut random, &events);
             // Saves fill one log up to the limit; the other has none.
-            events.resize(3000, save_event());
+            events.resize(MOST_EVENTS, save_event());
             check_pair(&mut census, chip, &snapshot, &events, &kept);
             kept.insert(0, save_event());
             check_pair(&mut census, chip, &snapshot, &free, &kept);

@@ -2,13 +2,13 @@
 //! alone and with others present. A refused event hands back the state it got.
 
 use crate::common::Bench;
-use kit::{highest_kind, largest, not_built, p1, p2, place_count, used_bytes, CHIPS};
+use kit::{highest_kind, largest, not_built, p1, p2, place_count, used_bytes, ANSWER_BYTES, CHIPS};
 use model::{kind, Operand};
 
 /// The event must be refused with this number and change nothing.
 fn assert_refused(chip: &Bench, kind: u8, operand: Operand, number: u8) {
     let (answer, next) = model::event(&chip.state, kind, &operand);
-    let mut expected = [0; 18];
+    let mut expected = [0; ANSWER_BYTES];
     expected[0] = number;
     assert_eq!(answer, expected, "kind {kind} operand {operand:02x?}");
     assert_eq!(next, chip.state, "kind {kind} operand {operand:02x?}");

@@ -2,7 +2,7 @@
 //! tests. The expected values are worked out from the data sheet by hand.
 
 use crate::common::Bench;
-use kit::{p2, rs};
+use kit::{p2, rs, ANSWER_BYTES};
 use model::kind;
 
 /// RS1, RS0, direction before, then the places that change and their values.
@@ -220,9 +220,9 @@ fn blank_low_gives_zeros_and_the_count_remains() {
     let before = chip.state.clone();
     let shown = chip.event(kind::TICK, [0x10, 0, 0, 0, 0, 0, 0, 1]);
     assert_eq!(shown[..6], [0, 1, 1, 0x1D, 0x1E, 0x1C]);
-    assert_eq!(shown[6..], [0; 12]);
+    assert_eq!(shown[6..], [0; ANSWER_BYTES - 6]);
     let blanked = chip.event(kind::TICK, [0x10, 0, 0, 0, 0, 0, 0, 0]);
     assert_eq!(blanked[..3], [0, 1, 0]);
-    assert_eq!(blanked[3..], [0; 15]);
+    assert_eq!(blanked[3..], [0; ANSWER_BYTES - 3]);
     assert_eq!(chip.state, before);
 }

@@ -1,13 +1,23 @@
 //! The printing program's output, from the library and from `model-replay`.
 
-use crate::common::output_of;
+use crate::common::header_over_the_limit;
 use kit::{chip_of_round, highest_kind, log_bytes, not_built, Random, NOT_BUILT};
 use kit::{read, save, tick, vertical, write};
 use model::printed;
 use std::collections::BTreeMap;
+use std::io::Write;
+use std::process::{Command, Stdio};
 
 fn printed_by_program(input: &[u8]) -> String {
-    output_of(env!("CARGO_BIN_EXE_model-replay"), input)
+    let mut child = Command::new(env!("CARGO_BIN_EXE_model-replay"))
+        .stdin(Stdio::piped())
+        .stdout(Stdio::piped())
+        .spawn()
+        .unwrap();
+    child.stdin.take().unwrap().write_all(input).unwrap();
+    let output = child.wait_with_output().unwrap();
+    assert!(output.status.success());
+    String::from_utf8(output.stdout).unwrap()
 }
 
 #[test]
@@ -69,7 +79,7 @@ fn a_refused_log_prints_its_number_alone() {
         (vec![1, 0, 0, 0], "refused 10\n"),
         (vec![0, 0, 0, 0, 0], "refused 11\n"),
         (vec![NOT_BUILT, 0, 0, 0, 0], "refused 11\n"),
-        (vec![2, 0xB9, 0x0B, 0, 0], "refused 12\n"),
+        (header_over_the_limit(2), "refused 12\n"),
         (vec![2, 1, 0, 0, 0], "refused 13\n"),
         (long, "refused 13\n"),
         (bad_kind, "refused 14\n"),

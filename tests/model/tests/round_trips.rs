@@ -2,7 +2,7 @@
 
 use crate::common::play;
 use kit::{chip_of_round, log_bytes, place_count, save as save_event, snapshot_bytes};
-use kit::{vertical, Random, CHIPS};
+use kit::{vertical, Random, ANSWER_BYTES, CHIPS, END_BYTES};
 use model::{event, kind, restore, save, save_into, State};
 
 #[test]
@@ -17,11 +17,11 @@ fn save_then_restore_gives_the_state_back() {
         assert_eq!(restored.refusal, None);
         assert_eq!(restored.state, state);
 
-        let mut buffer = vec![0xEE; 2370];
+        let mut buffer = vec![0xEE; END_BYTES];
         let saved = save_into(&state, &mut buffer);
         assert_eq!(saved.refusal, None);
         assert_eq!(buffer[..saved.length], bytes);
-        assert_eq!(buffer[saved.length..], vec![0xEE; 2370 - saved.length]);
+        assert_eq!(buffer[saved.length..], vec![0xEE; END_BYTES - saved.length]);
 
         let kept = state.places().iter().filter(|&&value| value != 0).count();
         assert_eq!(bytes.len(), 3 + 3 * kept);
@@ -78,7 +78,7 @@ fn a_save_event_leaves_every_state_as_it_was() {
     for round in 0..400 {
         let state = random.state(chip_of_round(round));
         let (answer, next) = event(&state, kind::SAVE, &[0; 8]);
-        assert_eq!(answer, [0; 18]);
+        assert_eq!(answer, [0; ANSWER_BYTES]);
         assert_eq!(next, state);
     }
 }

@@ -1,8 +1,10 @@
 //! Refusals of a run: the snapshot's, the log's, 26, 30, 31, each alone, in
 //! every combination of groups, and in order inside each group.
 
+use crate::common::header_over_the_limit;
 use kit::{chip_of_round, highest_kind, log_bytes, not_built, place_count, snapshot_bytes};
 use kit::{read, save, tick, vertical, write, Random, CHIPS, NOT_BUILT};
+use kit::{ANSWER_BYTES, END_BYTES, MOST_EVENTS};
 use model::{kind, read_log, run, Event};
 
 /// Runs with buffers of these sizes; gives the result and both buffers.
@@ -38,7 +40,7 @@ fn assert_log_refused(log: &[u8], number: u8) {
         read_log(log).map_err(|refusal| refusal.number()),
         Err(number)
     );
-    assert_refused(&[1, 0, 0], log, 100_000, 2370, number);
+    assert_refused(&[1, 0, 0], log, 100_000, END_BYTES, number);
 }
 
 fn odd_kind(kind: u8) -> Event {
@@ -74,7 +76,7 @@ fn log_with(fault: u8, chip: u8) -> Vec<u8> {
     match fault {
         10 => return vec![chip, 2, 0, 0],
         11 => return log_bytes(NOT_BUILT, &events),
-        12 => return vec![chip, 0xB9, 0x0B, 0, 0], // 3,001
+        12 => return header_over_the_limit(chip),
         13 => {
             let mut bytes = log_bytes(chip, &events);
             bytes.pop();
@@ -89,6 +91,7 @@ fn log_with(fault: u8, chip: u8) -> Vec<u8> {
 
 #[test]
 fn every_combination_of_groups_gives_the_first_refusal() {
+    let exact = 2 * ANSWER_BYTES;
     let mut tried = 0;
     for (snapshot_chip, log_chip) in pairs_of_chips() {
         let chip_fault = if snapshot_chip == log_chip { 0 } else { 26 };
@@ -96,8 +99,8 @@ fn every_combination_of_groups_gives_the_first_refusal() {
             for log_fault in [0, 10, 11, 12, 13, 14, 15] {
                 let snapshot = snapshot_with(snapshot_fault, snapshot_chip);
                 let log = log_with(log_fault, log_chip);
-                for (answer_bytes, answer_fault) in [(36, 0), (35, 30)] {
-                    for (end_bytes, end_fault) in [(2370, 0), (2369, 31)] {
+                for (answer_bytes, answer_fault) in [(exact, 0), (exact - 1, 30)] {
+                    for (end_bytes, end_fault) in [(END_BYTES, 0), (END_BYTES - 1, 31)] {
                         let inputs = [snapshot_fault, log_fault, chip_fault];
                         let faults = [&inputs[..], &[answer_fault, end_fault]].concat();
                         match faults.into_iter().find(|&fault| fault != 0) {
@@ -139,13 +142,13 @@ fn refusal_11_chip_comes_before_12_13_and_14() {
 
 #[test]
 fn refusal_12_count_comes_before_13_and_14() {
-    assert_log_refused(&[1, 0xB9, 0x0B, 0, 0], 12);
+    assert_log_refused(&header_over_the_limit(1), 12);
     assert_log_refused(&[1, 0, 0, 1, 0], 12);
     assert_log_refused(&[1, 0, 0, 0, 1], 12);
     assert_log_refused(&[1, 0xFF, 0xFF, 0xFF, 0xFF], 12);
-    // 3,001 events of the right length, good ones or not.
-    assert_log_refused(&log_bytes(1, &vec![vertical(); 3001]), 12);
-    assert_log_refused(&log_bytes(1, &vec![odd_kind(200); 3001]), 12);
+    // The right length for one event too many, good ones or not.
+    assert_log_refused(&log_bytes(1, &vec![vertical(); MOST_EVENTS + 1]), 12);
+    assert_log_refused(&log_bytes(1, &vec![odd_kind(200); MOST_EVENTS + 1]), 12);
 }
 
 #[test]
@@ -200,23 +203,24 @@ fn refusals_14_and_15_at_one_index_the_smaller_number() {
 #[test]
 fn refusal_15_goes_by_the_logs_chip() {
     // Byte 1 is pixel B of chip 1; chip 2 has no use for it.
-    let event = tick([0, 1, 0, 0, 0, 0, 0, 1]);
-    assert_accepted(&[1, 0, 0], &log_bytes(1, &[event]), 18, 2370);
-    assert_refused(&[2, 0, 0], &log_bytes(2, &[event]), 18, 2370, 15);
+    let log = |chip| log_bytes(chip, &[tick([0, 1, 0, 0, 0, 0, 0, 1])]);
+    assert_accepted(&[1, 0, 0], &log(1), ANSWER_BYTES, END_BYTES);
+    assert_refused(&[2, 0, 0], &log(2), ANSWER_BYTES, END_BYTES, 15);
     // The log is checked before 26, so the snapshot's chip doesn't matter.
-    assert_refused(&[1, 0, 0], &log_bytes(2, &[event]), 18, 2370, 15);
-    assert_refused(&[2, 0, 0], &log_bytes(1, &[event]), 18, 2370, 26);
+    assert_refused(&[1, 0, 0], &log(2), ANSWER_BYTES, END_BYTES, 15);
+    assert_refused(&[2, 0, 0], &log(1), ANSWER_BYTES, END_BYTES, 26);
 }
 
 #[test]
 fn refusal_26_both_ways_round() {
     for (snapshot_chip, log_chip) in pairs_of_chips().filter(|(one, other)| one != other) {
+        let start = [snapshot_chip, 0, 0];
         let log = log_bytes(log_chip, &[save()]);
-        assert_refused(&[snapshot_chip, 0, 0], &log, 18, 2370, 26);
+        assert_refused(&start, &log, ANSWER_BYTES, END_BYTES, 26);
         // 26 comes before 30 and 31.
-        assert_refused(&[snapshot_chip, 0, 0], &log, 17, 2370, 26);
-        assert_refused(&[snapshot_chip, 0, 0], &log, 18, 2369, 26);
-        assert_refused(&[snapshot_chip, 0, 0], &log, 0, 0, 26);
+        assert_refused(&start, &log, ANSWER_BYTES - 1, END_BYTES, 26);
+        assert_refused(&start, &log, ANSWER_BYTES, END_BYTES - 1, 26);
+        assert_refused(&start, &log, 0, 0, 26);
     }
 }
 
@@ -224,27 +228,28 @@ fn refusal_26_both_ways_round() {
 fn refusal_30_one_byte_short_exact_and_longer() {
     for count in [1, 2, 7] {
         let log = log_bytes(2, &vec![read(2); count]);
-        assert_refused(&[2, 0, 0], &log, 18 * count - 1, 2370, 30);
-        assert_refused(&[2, 0, 0], &log, 0, 2370, 30);
-        assert_accepted(&[2, 0, 0], &log, 18 * count, 2370);
-        assert_accepted(&[2, 0, 0], &log, 18 * count + 1, 2370);
+        let exact = ANSWER_BYTES * count;
+        assert_refused(&[2, 0, 0], &log, exact - 1, END_BYTES, 30);
+        assert_refused(&[2, 0, 0], &log, 0, END_BYTES, 30);
+        assert_accepted(&[2, 0, 0], &log, exact, END_BYTES);
+        assert_accepted(&[2, 0, 0], &log, exact + 1, END_BYTES);
         // 30 comes before 31.
-        assert_refused(&[2, 0, 0], &log, 18 * count - 1, 2369, 30);
+        assert_refused(&[2, 0, 0], &log, exact - 1, END_BYTES - 1, 30);
     }
     // No events need no answer buffer.
-    assert_accepted(&[2, 0, 0], &log_bytes(2, &[]), 0, 2370);
+    assert_accepted(&[2, 0, 0], &log_bytes(2, &[]), 0, END_BYTES);
 }
 
 #[test]
 fn refusal_31_one_byte_short_exact_and_longer() {
     for chip in CHIPS {
         let log = log_bytes(chip, &[read(0)]);
-        for size in [0, 3, 2325, 2369] {
-            assert_refused(&[chip, 0, 0], &log, 18, size, 31);
+        for size in [0, 3, 2325, END_BYTES - 1] {
+            assert_refused(&[chip, 0, 0], &log, ANSWER_BYTES, size, 31);
         }
-        assert_accepted(&[chip, 0, 0], &log, 18, 2370);
-        assert_accepted(&[chip, 0, 0], &log, 18, 2371);
-        assert_refused(&[chip, 0, 0], &log_bytes(chip, &[]), 0, 2369, 31);
+        assert_accepted(&[chip, 0, 0], &log, ANSWER_BYTES, END_BYTES);
+        assert_accepted(&[chip, 0, 0], &log, ANSWER_BYTES, END_BYTES + 1);
+        assert_refused(&[chip, 0, 0], &log_bytes(chip, &[]), 0, END_BYTES - 1, 31);
     }
 }
 
@@ -252,14 +257,14 @@ fn refusal_31_one_byte_short_exact_and_longer() {
 fn bytes_past_the_answers_and_the_end_snapshot_do_not_change() {
     // Address 5 written and read on chip 2: document 01's printing example.
     let log = log_bytes(2, &[write(0, 5), read(0)]);
-    let (result, answers, end) = run_with(&[2, 0, 0], &log, 36 + 20, 2370 + 20);
+    let (result, answers, end) = run_with(&[2, 0, 0], &log, 2 * ANSWER_BYTES + 20, END_BYTES + 20);
     assert_eq!(result, 6);
-    assert_eq!(answers[..18], [0; 18]);
-    assert_eq!(answers[18..20], [0, 5]);
-    assert_eq!(answers[20..36], [0; 16]);
-    assert_eq!(answers[36..], [0xA5; 20]);
+    let mut expected = [0; 2 * ANSWER_BYTES];
+    expected[ANSWER_BYTES + 1] = 5;
+    assert_eq!(answers[..2 * ANSWER_BYTES], expected);
+    assert_eq!(answers[2 * ANSWER_BYTES..], [0xA5; 20]);
     assert_eq!(end[..6], [2, 1, 0, 0, 3, 5]);
-    assert_eq!(end[6..], [0x5A; 2370 + 20 - 6]);
+    assert_eq!(end[6..], [0x5A; END_BYTES + 20 - 6]);
 }
 
 #[test]
@@ -275,9 +280,9 @@ fn refusals_1_to_5_sit_in_their_answers_and_stop_nothing() {
             read(0),
         ],
     );
-    let (result, answers, end) = run_with(&[1, 0, 0], &log, 108, 2370);
+    let (result, answers, end) = run_with(&[1, 0, 0], &log, 6 * ANSWER_BYTES, END_BYTES);
     let firsts: Vec<[u8; 2]> = answers
-        .chunks(18)
+        .chunks(ANSWER_BYTES)
         .map(|answer| [answer[0], answer[1]])
         .collect();
     assert_eq!(firsts, [[1, 0], [0, 0], [2, 0], [4, 0], [0, 0], [0, 8]]);
@@ -286,9 +291,9 @@ fn refusals_1_to_5_sit_in_their_answers_and_stop_nothing() {
     assert_eq!(end[..9], [1, 2, 0, 0x0C, 0x03, 0x14, 0x03, 8, 1]);
 
     let log = log_bytes(2, &[read(1), vertical(), write(3, 7), write(1, 1), read(3)]);
-    let (result, answers, end) = run_with(&[2, 0, 0], &log, 90, 2370);
+    let (result, answers, end) = run_with(&[2, 0, 0], &log, 5 * ANSWER_BYTES, END_BYTES);
     let firsts: Vec<[u8; 2]> = answers
-        .chunks(18)
+        .chunks(ANSWER_BYTES)
         .map(|answer| [answer[0], answer[1]])
         .collect();
     assert_eq!(firsts, [[3, 0], [5, 0], [0, 0], [3, 0], [0, 8]]);
@@ -313,7 +318,8 @@ fn a_run_is_its_events_called_one_after_another() {
         }
         let snapshot = model::save(&start).unwrap();
         let log = log_bytes(chip, &events);
-        let (result, answers, end) = run_with(&snapshot, &log, 18 * events.len(), 2370);
+        let (result, answers, end) =
+            run_with(&snapshot, &log, ANSWER_BYTES * events.len(), END_BYTES);
         let end_snapshot = model::save(&state).unwrap();
         assert_eq!(result, end_snapshot.len() as u64);
         assert_eq!(answers, expected);

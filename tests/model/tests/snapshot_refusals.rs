@@ -3,7 +3,7 @@
 //! there are.
 
 use crate::common::Bench;
-use kit::{largest, not_built, p1, p2, place_count, snapshot_bytes, CHIPS};
+use kit::{largest, not_built, p1, p2, place_count, snapshot_bytes, CHIPS, END_BYTES};
 use model::{restore, save, save_into, Refusal, State};
 
 /// A refused restore gives a fresh chip 1 beside its number.
@@ -244,7 +244,7 @@ fn save_into_a_lent_buffer_one_short_exact_and_longer() {
     for chip in CHIPS {
         let bench = Bench::with_places(chip, &[(2, 0x0A), (300, 0x3F)]);
         let bytes = [chip, 2, 0, 0x02, 0x00, 0x2C, 0x01, 0x0A, 0x3F];
-        for size in [2370, 2371, 5000] {
+        for size in [END_BYTES, END_BYTES + 1, 5000] {
             let mut buffer = vec![0xEE; size];
             let saved = save_into(&bench.state, &mut buffer);
             assert_eq!(saved.refusal, None);
@@ -252,7 +252,7 @@ fn save_into_a_lent_buffer_one_short_exact_and_longer() {
             assert_eq!(buffer[..9], bytes);
             assert_eq!(buffer[9..], vec![0xEE; size - 9]);
         }
-        for size in [0, 9, 2325, 2369] {
+        for size in [0, 9, 2325, END_BYTES - 1] {
             assert_save_into_refused(&bench, size, 31);
         }
     }
@@ -272,14 +272,14 @@ fn assert_save_into_refused(bench: &Bench, size: usize, number: u8) {
 fn save_into_looks_for_21_before_31() {
     for chip in not_built() {
         let bench = Bench::not_built(chip);
-        for size in [0, 2, 3, 2325, 2369, 2370, 2371, 5000] {
+        for size in [0, 2, 3, 2325, END_BYTES - 1, END_BYTES, END_BYTES + 1, 5000] {
             assert_save_into_refused(&bench, size, 21);
         }
         assert_eq!(bench.state.chip(), chip);
         assert_eq!(bench.state.places(), []);
     }
     // The same short buffers give 31 for chips that are built.
-    for size in [0, 2, 3, 2325, 2369] {
+    for size in [0, 2, 3, 2325, END_BYTES - 1] {
         assert_save_into_refused(&Bench::fresh(1), size, 31);
         assert_save_into_refused(&Bench::fresh(2), size, 31);
     }
@@ -288,19 +288,22 @@ fn save_into_looks_for_21_before_31() {
 #[test]
 fn save_into_looks_for_25_before_31() {
     let bench = Bench::with_places(1, &[(p1::POSITION, 3)]);
-    for size in [0, 2369, 2370] {
+    for size in [0, END_BYTES - 1, END_BYTES] {
         assert_save_into_refused(&bench, size, 25);
     }
 }
 
 #[test]
 fn the_longest_snapshot_fills_the_buffer() {
+    let most = |&chip: &u8| place_count(chip);
+    let chip = CHIPS.into_iter().max_by_key(most).unwrap();
+    let longest = first_places(chip, place_count(chip));
     let bench = Bench {
-        state: assert_accepted(&first_places(1, p1::COUNT)),
+        state: assert_accepted(&longest),
     };
-    let mut buffer = vec![0xEE; 2370];
+    let mut buffer = vec![0xEE; END_BYTES];
     let saved = save_into(&bench.state, &mut buffer);
     assert_eq!(saved.refusal, None);
-    assert_eq!(saved.length, 2370);
-    assert_eq!(buffer, first_places(1, p1::COUNT));
+    assert_eq!(saved.length, END_BYTES);
+    assert_eq!(buffer, longest);
 }

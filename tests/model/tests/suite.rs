@@ -3,7 +3,6 @@
 mod common;
 
 mod boundaries;
-mod calls;
 mod demand3;
 mod event_refusals;
 mod hd153129_tables;

@@ -2,7 +2,7 @@
 //! from the data sheet by hand.
 
 use crate::common::Bench;
-use kit::{c, p1};
+use kit::{c, p1, ANSWER_BYTES};
 use model::kind;
 
 /// One row of Table 1 or Table 2, tried with an entry that holds A1h B2h C3h,
@@ -356,7 +356,7 @@ fn table_6_blk_low_blanks_and_sync_does_not() {
     for (levels, data) in [(0, false), (1, true), (2, false), (3, true)] {
         let mut chip = table_5_chip(0xC3);
         let answer = chip.event(kind::TICK, [1, 1, 1, 1, 1, 0, 0, levels]);
-        let mut expected = [0; 18];
+        let mut expected = [0; ANSWER_BYTES];
         expected[1] = 5;
         expected[2] = levels;
         if data {

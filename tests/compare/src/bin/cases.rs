@@ -1,17 +1,17 @@
 //! Plays the run blocks of documents and the stored cases of folders through
 //! the library, and their logs through the printing program.
 //!
-//! cases [--replay PROGRAM] FILE.md|FOLDER..
+//! cases --replay PROGRAM FILE.md|FOLDER..
 //!
 //! tests/stored/README.md describes the language. Compared are the returned
 //! number, every byte of both buffers, the bytes around them, the inputs, and
 //! every byte that is printed. Each file or folder must show every refusal.
 //! Prints a line for each case and 'N passed, M failed'.
 
-use compare::blocks::{self, Block, ANSWER_BYTES};
+use compare::blocks::{self, Block};
 use compare::library::{self, in_words, lacks, Call};
 use compare::program::{printed_by, WHOLE};
-use kit::hexadecimal;
+use kit::{hexadecimal, ANSWER_BYTES};
 use std::collections::BTreeSet;
 use std::fs;
 use std::io;
@@ -31,7 +31,7 @@ const PATTERNS: [u8; 2] = [0xA5, 0x5A];
 type Named = (String, Result<Block, String>);
 
 struct Tally {
-    replay: Option<PathBuf>,
+    replay: PathBuf,
     passed: usize,
     failed: usize,
 }
@@ -77,10 +77,8 @@ impl Tally {
     /// What the library and the printing program get wrong, if anything.
     fn wrong(&self, block: &Block) -> Option<String> {
         let run = (PATTERNS.iter().zip(1..)).find_map(|(&pattern, i)| wrong_run(block, pattern, i));
-        let printed = match (&self.replay, &block.printed) {
-            (Some(program), Some(text)) => wrong_print(program, block, text),
-            _ => None,
-        };
+        let text = block.printed.as_ref();
+        let printed = text.and_then(|text| wrong_print(&self.replay, block, text));
         let faults: Vec<_> = run.into_iter().chain(printed).collect();
         (!faults.is_empty()).then(|| faults.join("; "))
     }
@@ -223,26 +221,28 @@ fn text_difference(found: &str, right: &str) -> String {
     )
 }
 
+/// The printing program, and at least one file or folder.
+fn options(arguments: &[String]) -> Option<(&String, &[String])> {
+    let (option, rest) = arguments.split_first()?;
+    let (replay, sources) = rest.split_first()?;
+    let good = option == "--replay" && !sources.is_empty();
+    let stray = sources.iter().any(|source| source.starts_with('-'));
+    (good && !stray).then_some((replay, sources))
+}
+
 fn main() -> ExitCode {
-    let mut arguments: Vec<String> = std::env::args().skip(1).collect();
-    let mut replay = None;
-    if arguments.len() > 1 && arguments[0] == "--replay" {
-        replay = Some(arguments.drain(..2).nth(1).unwrap_or_default().into());
-    }
-    if arguments.is_empty() || arguments.iter().any(|argument| argument.starts_with('-')) {
-        eprintln!("usage: cases [--replay PROGRAM] FILE.md|FOLDER..");
+    let arguments: Vec<String> = std::env::args().skip(1).collect();
+    let Some((replay, sources)) = options(&arguments) else {
+        eprintln!("usage: cases --replay PROGRAM FILE.md|FOLDER..");
         return ExitCode::from(2);
-    }
+    };
     let mut tally = Tally {
-        replay,
+        replay: replay.into(),
         passed: 0,
         failed: 0,
     };
-    if tally.replay.is_none() {
-        println!("no --replay: what is printed isn't looked at");
-    }
-    for argument in &arguments {
-        tally.source(Path::new(argument));
+    for source in sources {
+        tally.source(Path::new(source));
     }
     println!("{} passed, {} failed", tally.passed, tally.failed);
     match tally.failed == 0 && tally.passed > 0 {

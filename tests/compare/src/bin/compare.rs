@@ -5,6 +5,9 @@
 //! compare [--seconds N] [--seed S] [--replay PATH] [--calls PATH] [--tries N] [--may-lack] [--trace]
 //! compare --time [--seed S]
 //! compare --write DIR [--seed S]
+//!
+//! The classes of a program that isn't given fail, as do those of a call that
+//! the library lacks; with --may-lack they are named as left out.
 
 use compare::calls::classes;
 use compare::calls::record::Record;
@@ -99,8 +102,8 @@ fn compared(options: &Options) -> bool {
     comparison.report.verdict()
 }
 
-/// Writes the sample logs, and what the model prints for each, as NAME.log and
-/// NAME.txt.
+/// Writes the samples as replay/NAME.in and calls/NAME.in, and what the model
+/// prints for each as NAME.out beside it.
 fn write_samples(seed: u64, directory: &Path) -> io::Result<()> {
     let random = &mut Random::seeded(seed);
     for (name, log) in replay::samples(random) {

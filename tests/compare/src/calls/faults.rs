@@ -51,7 +51,7 @@ pub fn any(random: &mut Random) -> Planted {
     }
 }
 
-/// An event that is refused with this number alone.
+/// An event whose first refusal is this number.
 pub fn planted(random: &mut Random, fault: Refusal) -> Planted {
     let chip = random.pick(chips_with(fault));
     let mut state = accepted(random, chip);

@@ -1,0 +1,13 @@
+//! The sizes and limits of answers, logs and snapshots. Copied from document
+//! 01.
+
+/// An event's answer.
+pub const ANSWER_BYTES: usize = 18;
+/// The end buffer needs this much, and so does a buffer that is saved into.
+pub const END_BYTES: usize = 2370;
+/// The most events of a log.
+pub const MOST_EVENTS: usize = 3000;
+/// A log's chip byte and count.
+pub const LOG_HEADER_BYTES: usize = 5;
+/// An event in a log: kind and operand.
+pub const EVENT_BYTES: usize = 9;

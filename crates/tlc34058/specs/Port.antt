@@ -1,6 +1,6 @@
 -- Document 01's "Chip 1 port": writes and reads through C1 and C0.
 use Prim.Native.Nat.{ℕ, _+_}
-use mathlib.Core.Bool.{Bool, true, false, cond}
+use mathlib.Core.Bool.{Bool, false, cond}
 use mathlib.Core.List.{List}
 use lib.Dec.{ltb, eqb}
 use Rattle.event.specs.Event.{Raw, operandAt, refused, gave, done}

@@ -1,5 +1,5 @@
 // Plays calls on a state, each by itself, from records on standard input, and prints all that comes back: numbers, answers, places, and every byte of a lent buffer.
-// A record starts with its call: 0 event, 1 save, 2 restore. Any other byte, a room or a length over 4,096, and the input's end end the program.
+// A record starts with its call: 0 event, 1 save, 2 restore. Any other byte there, a room or a length over 4,096, and the input's end end the program; a record that is cut off is played with zeros for what is missing.
 // A state is its chip byte and all places of chip 1 and of chip 2, whatever their values. An event has a state, a kind and 8 operand bytes; a save a state, the room that is lent (2 bytes, low first) and the byte that fills the buffer; a restore the snapshot's length (2 bytes) and its bytes.
 ghost use mathlib.Core.Path.{_≡_};
 ghost use Prim.Native.Nat.{_+_, _*_, _≤_, _<_};
@@ -120,7 +120,7 @@ fn play_save() -> bool {
     true
 }
 
-// Reads a buffer's bytes up to number to.
+// Fills the bytes of a buffer before number to from the input.
 fn read_part(bytes: &mut [u8], to: usize)
     requires { ⌜ to ≤ length (now bytes) ⌝ }
 {

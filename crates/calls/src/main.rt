@@ -1,9 +1,9 @@
 // Plays calls on a state, each by itself, from records on standard input, and prints all that comes back: numbers, answers, places, and every byte of a lent buffer.
 // A record starts with its call: 0 event, 1 save, 2 restore. Any other byte there, a room or a length over 4,096, and the input's end end the program; a record that is cut off is played with zeros for what is missing.
-// A state is its chip byte and all places of chip 1 and of chip 2, whatever their values. An event has a state, a kind and 8 operand bytes; a save a state, the room that is lent (2 bytes, low first) and the byte that fills the buffer; a restore the snapshot's length (2 bytes) and its bytes.
+// A state is its chip byte and all places of each chip in the order of their numbers, whatever their values. An event has a state, a kind and 8 operand bytes; a save a state, the room that is lent (2 bytes, low first) and the byte that fills the buffer; a restore the snapshot's length (2 bytes) and its bytes.
 ghost use mathlib.Core.Path.{_≡_};
-ghost use Prim.Native.Nat.{_+_, _*_, _≤_, _<_};
-ghost use lib.ListN.{length, getD};
+ghost use Prim.Native.Nat.{_≤_};
+ghost use lib.ListN.{length};
 ghost use Rattle.tlc34058.specs.Places as places₁;
 ghost use Rattle.hd153129.specs.Places as places₂;
 ghost use Rattle.chip.specs.Struct.{wholeOf};
@@ -18,38 +18,24 @@ const ROOM: usize = 4096;
 const MOST_CALLS: usize = 65536;
 
 // The state with this chip byte and these places.
-fn chip_from(number: u8, one: [u8; 789], two: [u8; 774]) -> Chip
-    ensures { λ r. ⌜ wholeOf r ≡ record { number = number; one = places₁.stateFrom one; two = places₂.stateFrom two } ⌝ }
+fn chip_from(number: u8, tlc34058: [u8; tlc34058::PLACES], hd153129: [u8; hd153129::PLACES]) -> Chip
+    ensures { λ r. ⌜ wholeOf r ≡ record { number = number; tlc34058 = places₁.stateFrom tlc34058; hd153129 = places₂.stateFrom hd153129 } ⌝ }
 {
     Chip {
         number,
-        tlc34058: tlc34058::from_places(one),
-        hd153129: hd153129::from_places(two),
+        tlc34058: tlc34058::from_places(tlc34058),
+        hd153129: hd153129::from_places(hd153129),
     }
-}
-
-fn wide(x: u8) -> usize
-    ensures { λ r. ⌜ (r ≡ x) × (r < 256) ⌝ }
-{
-    x as usize
-}
-
-// The number of the first two bytes, the low one first.
-fn word(bytes: &[u8]) -> usize
-    requires { ⌜ 2 ≤ length (now bytes) ⌝ }
-    ensures { λ r. ⌜ r ≡ getD (now (bytes .entry)) 0 0 + 256 * getD (now (bytes .entry)) 1 0 ⌝ }
-{
-    wide(bytes[0]) + 256 * wide(bytes[1])
 }
 
 fn read_chip() -> Chip {
     let mut number = [0u8; 1];
-    let mut one = [0u8; 789];
-    let mut two = [0u8; 774];
+    let mut tlc34058 = [0u8; tlc34058::PLACES];
+    let mut hd153129 = [0u8; hd153129::PLACES];
     io::read_full(STDIN_FILENO, &mut number);
-    io::read_full(STDIN_FILENO, &mut one);
-    io::read_full(STDIN_FILENO, &mut two);
-    chip_from(number[0], one, two)
+    io::read_full(STDIN_FILENO, &mut tlc34058);
+    io::read_full(STDIN_FILENO, &mut hd153129);
+    chip_from(number[0], tlc34058, hd153129)
 }
 
 fn print_digits(bytes: &[u8])
@@ -67,15 +53,15 @@ fn end_line() {
 
 fn print_chip(chip: Chip) {
     let number = [chip.number; 1];
-    let one = tlc34058::to_places(chip.tlc34058);
-    let two = hd153129::to_places(chip.hd153129);
+    let tlc34058 = tlc34058::to_places(chip.tlc34058);
+    let hd153129 = hd153129::to_places(chip.hd153129);
     print_digits(&number);
-    print_digits(&one);
-    print_digits(&two);
+    print_digits(&tlc34058);
+    print_digits(&hd153129);
     end_line();
 }
 
-fn print_answer(answer: [u8; 18]) {
+fn print_answer(answer: [u8; event::ANSWER_BYTES]) {
     print_digits(&answer);
     end_line();
 }
@@ -86,10 +72,10 @@ fn play_event() {
     let mut call = [0u8; 9];
     io::read_full(STDIN_FILENO, &mut call);
     let operand = log::operand(&call, 1);
-    let turn = chip::event(chip, call[0], operand);
-    let answer = turn.answer;
+    let outcome = chip::event(chip, call[0], operand);
+    let answer = outcome.answer;
     print_answer(answer);
-    print_chip(turn.chip);
+    print_chip(outcome.chip);
 }
 
 // Saves into the first room bytes of a buffer. The refusal, and the length.
@@ -108,7 +94,7 @@ fn play_save() -> bool {
     let chip = read_chip();
     let mut call = [0u8; 3];
     io::read_full(STDIN_FILENO, &mut call);
-    let room = word(&call);
+    let room = bytes::word(&call, 0);
     if ROOM < room {
         return false;
     }
@@ -131,7 +117,7 @@ fn read_part(bytes: &mut [u8], to: usize)
 fn play_restore() -> bool {
     let mut call = [0u8; 2];
     io::read_full(STDIN_FILENO, &mut call);
-    let length = word(&call);
+    let length = bytes::word(&call, 0);
     if ROOM < length {
         return false;
     }

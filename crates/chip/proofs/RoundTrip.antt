@@ -1,69 +1,57 @@
 -- Saving and then restoring gives the same state; for every accepted snapshot restoring and then saving gives the same bytes.
 use Prim.Native.Nat.{ℕ}
-use mathlib.Core.Path.{_≡_, sym, _∙_, ap}
+use mathlib.Core.Path.{_≡_, refl, sym, _∙_, ap}
+use mathlib.Core.Bool.{true}
 use mathlib.Core.List.{List}
-use native.Mathlib.Omega.{arith}
 use lib.ListN.{getD}
 use Rattle.laws.specs.Bytes.{AllBytes}
-use Rattle.snapshot.specs.Snapshot.{refusalOf}
-use Rattle.snapshot.proofs.RoundTrip as codec
+use Rattle.snapshot.specs.Snapshot.{refusalFor}
 use Rattle.snapshot.proofs.Pairs.{accepted}
-use Rattle.tlc34058.specs.State as state₁
-use Rattle.tlc34058.specs.Places as places₁
 use Rattle.tlc34058.proofs.Saved as saved₁
-use Rattle.hd153129.specs.State as state₂
-use Rattle.hd153129.specs.Places as places₂
 use Rattle.hd153129.proofs.Saved as saved₂
-use Rattle.chip.specs.Chip.{State, tlc34058, hd153129, unbuilt, snapshotRefusal, restore, saved}
-use Rattle.chip.proofs.Named.{refusal-one, refusal-two, restore-one, restore-two, restore-by}
+use Rattle.chip.specs.Chip.{State, tlc34058, hd153129, unbuilt, freshWhole, freshState, numberOf, largestOf, isBuilt, decodedAs, snapshotRefusal, restore, saved}
+use Rattle.chip.proofs.Named.{named-tlc34058, named-hd153129, refusal-as, restore-as, restore-by}
 use Rattle.chip.proofs.Shuffled.{Sound}
 
--- ---- saving, then restoring
+-- a sound state's snapshot isn't refused as one of its own chip
+own-accepted : (s : State) → Sound s → refusalFor (numberOf s) (largestOf s) (saved s) ≡ 0
+own-accepted (tlc34058 s) v = saved₁.saved-accepted s v
+own-accepted (hd153129 s) v = saved₂.saved-accepted s v
+own-accepted (unbuilt n) v = absurd v
 
-module _ (s : state₁.State) (v : Sound (tlc34058 s)) where
-  ok₁ : refusalOf 1 places₁.largest (places₁.saved s) ≡ 0
-  ok₁ = codec.accepted-back 1 places₁.largest (places₁.placesOf s) (omega (arith, saved₁.largest-long)) (saved₁.valid s v)
+-- the fresh chip that its first byte names
+abbrev Fresh : State → State → Type 0
+Fresh s c = (numberOf c ≡ numberOf s) × (largestOf c ≡ largestOf s) × (isBuilt c ≡ isBuilt s) × ((b : List ℕ) → decodedAs c b ≡ decodedAs s b)
 
-  pub accepted₁ : snapshotRefusal (saved (tlc34058 s)) ≡ 0
-  accepted₁ =
-      let a = accepted 1 places₁.largest (places₁.saved s) ok₁ in
-      sym (refusal-one (places₁.saved s) (a .header) (a .named)) ∙ ok₁
+names : (s : State) (n : ℕ) → Sound s → n ≡ numberOf s → Fresh s (freshState n)
+names (tlc34058 s) n v e = rw (named-tlc34058 (freshWhole n) e) (refl, refl, refl, λ b. refl)
+names (hd153129 s) n v e = rw (named-hd153129 (freshWhole n) e) (refl, refl, refl, λ b. refl)
+names (unbuilt n) m v e = absurd v
 
-  back₁ : restore (saved (tlc34058 s)) ≡ tlc34058 s
-  back₁ =
-      let a = accepted 1 places₁.largest (places₁.saved s) ok₁ in
-      restore-one (places₁.saved s) (a .header) (a .named) ∙ ap tlc34058 (saved₁.saved-same s v)
+decoded-same : (s : State) → Sound s → decodedAs s (saved s) ≡ s
+decoded-same (tlc34058 s) v = ap tlc34058 (saved₁.saved-same s v)
+decoded-same (hd153129 s) v = ap hd153129 (saved₂.saved-same s v)
+decoded-same (unbuilt n) v = absurd v
 
-module _ (s : state₂.State) (v : Sound (hd153129 s)) where
-  ok₂ : refusalOf 2 places₂.largest (places₂.saved s) ≡ 0
-  ok₂ = codec.accepted-back 2 places₂.largest (places₂.placesOf s) (omega (arith, saved₂.largest-long)) (saved₂.valid s v)
+built : (s : State) → Sound s → isBuilt s ≡ true
+built (tlc34058 s) v = refl
+built (hd153129 s) v = refl
+built (unbuilt n) v = absurd v
 
-  not-one : getD (places₂.saved s) 0 0 ≡ 1 → ⊥
-  not-one e = let a = accepted 2 places₂.largest (places₂.saved s) ok₂ in omega (arith, a .named)
+module _ (s : State) (v : Sound s) where
+  own : Fresh s (freshState (getD (saved s) 0 0))
+  own = names s (getD (saved s) 0 0) v (accepted (numberOf s) (largestOf s) (saved s) (own-accepted s v) .named)
 
-  pub accepted₂ : snapshotRefusal (saved (hd153129 s)) ≡ 0
-  accepted₂ =
-      let a = accepted 2 places₂.largest (places₂.saved s) ok₂ in
-      sym (refusal-two (places₂.saved s) (a .header) not-one (a .named)) ∙ ok₂
+  -- the snapshot of a sound state is accepted, and gives the state back
+  pub saved-accepted : snapshotRefusal (saved s) ≡ 0
+  saved-accepted =
+      let c : State = freshState (getD (saved s) 0 0) in
+      refusal-as (saved s) c (accepted (numberOf s) (largestOf s) (saved s) (own-accepted s v) .header) refl
+      ∙ simp (own .2 ∙ built s v) ((λ i. refusalFor (own .0 i) (own .1 i) (saved s)) ∙ own-accepted s v)
 
-  back₂ : restore (saved (hd153129 s)) ≡ hd153129 s
-  back₂ =
-      let a = accepted 2 places₂.largest (places₂.saved s) ok₂ in
-      restore-two (places₂.saved s) (a .header) not-one (a .named) ok₂ ∙ ap hd153129 (saved₂.saved-same s v)
-
--- the snapshot of a sound state is accepted, and gives the state back
-pub saved-accepted : (s : State) → Sound s → snapshotRefusal (saved s) ≡ 0
-saved-accepted (tlc34058 s) v = accepted₁ s v
-saved-accepted (hd153129 s) v = accepted₂ s v
-saved-accepted (unbuilt n) v = absurd v
-
-pub state-back : (s : State) → Sound s → restore (saved s) ≡ s
-state-back (tlc34058 s) v = back₁ s v
-state-back (hd153129 s) v = back₂ s v
-state-back (unbuilt n) v = absurd v
-
--- ---- restoring, then saving
+  pub state-back : restore (saved s) ≡ s
+  state-back = restore-as (saved s) (freshState (getD (saved s) 0 0)) saved-accepted refl ∙ own .3 (saved s) ∙ decoded-same s v
 
 -- for every accepted snapshot, restoring and then saving gives the same bytes
 pub bytes-back : (b : List ℕ) → AllBytes b → snapshotRefusal b ≡ 0 → saved (restore b) ≡ b
-bytes-back b small h = restore-by (λ s. saved s ≡ b) b h (λ one ok. saved₁.bytes-back b small ok) (λ two ok. saved₂.bytes-back b small ok)
+bytes-back b small h = restore-by b (λ s. saved s ≡ b) h (λ e ok. saved₁.bytes-back b small ok) (λ e ok. saved₂.bytes-back b small ok)

@@ -1,7 +1,6 @@
 // The colour port that the chips have in common: address, position and held bytes, and how colour accesses move them.
 ghost use mathlib.Core.Path.{_≡_};
 ghost use Prim.Native.Nat.{_+_, _*_, _<_, _≤_};
-ghost use lib.Bits.{bitAnd};
 ghost use lib.ListN.{length};
 ghost use Rattle.colour.specs.Colour.{pointed, onward, held, stored, component};
 ghost use Rattle.colour.specs.Struct.{cursorOf};
@@ -54,7 +53,7 @@ impl Cursor {
 
     // A colour byte is held at positions 0 and 1; at 2 the triple goes into the entry. Then the counters move on.
     pub fn write(self, colours: &mut [u8], entry: usize, byte: u8) -> Cursor
-        requires { ⌜ (entry < 260) × (self .position .0 ≤ 2) × (3 * entry + 2 < length (now colours)) ⌝ }
+        requires { ⌜ (self .position .0 ≤ 2) × (3 * entry + 2 < length (now colours)) ⌝ }
         ensures { λ r. ⌜ (cursorOf r ≡ onward (held (cursorOf self) byte)) × (now (colours .exit) ≡ stored (now (colours .entry)) (cursorOf self) entry byte) ⌝ }
     {
         let mut cursor = self;
@@ -76,24 +75,10 @@ impl Cursor {
 
     // The entry's component at the position.
     pub fn read(self, colours: &[u8], entry: usize) -> u8
-        requires { ⌜ (entry < 260) × (self .position .0 ≤ 2) × (3 * entry + 2 < length (now colours)) ⌝ }
+        requires { ⌜ (self .position .0 ≤ 2) × (3 * entry + 2 < length (now colours)) ⌝ }
         ensures { λ r. ⌜ r ≡ component (now (colours .entry)) (cursorOf self) entry ⌝ }
     {
         let at = self.position.0;
-        colours[3 * entry + wide(at)]
+        colours[3 * entry + bytes::wide(at)]
     }
-}
-
-// A byte as an index.
-pub fn wide(x: u8) -> usize
-    ensures { λ r. ⌜ (r ≡ x) × (r < 256) ⌝ }
-{
-    x as usize
-}
-
-// The pixel bits that a mask leaves.
-pub fn masked(pixel: u8, mask: u8) -> u8
-    ensures { λ r. ⌜ r ≡ bitAnd pixel mask ⌝ }
-{
-    pixel & mask
 }

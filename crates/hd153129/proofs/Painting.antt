@@ -6,9 +6,10 @@ use native.Mathlib.Omega.{arith}
 use borrow.Author.Tests.{ne-eqb, lt-ltb}
 use lib.Dec.{eqb}
 use Rattle.laws.proofs.Tests.{cond-all}
+use Rattle.event.specs.Kinds as kinds
 use Rattle.event.specs.Event.{Raw, operandAt}
 use Rattle.hd153129.specs.State.{State}
-use Rattle.hd153129.specs.Port.{Access, accessRefusal, requestWrite, requestRead, request, altersDisplay}
+use Rattle.hd153129.specs.Port.{Access, nothing, accessRefusal, requestWrite, requestRead, request, altersDisplay}
 use Rattle.hd153129.specs.Painting.{paints}
 
 writes : (s : State) (n b : ℕ) → altersDisplay s (requestWrite (s .direction) n b) ≡ paints 0 n (s .direction) (s .cursor .position)
@@ -33,8 +34,8 @@ reads s n =
 
 pub alters-exactly : (s : State) (e : Raw) → altersDisplay s (request s e) ≡ paints (e .kind) (operandAt e 0) (s .direction) (s .cursor .position)
 unfolding request
-alters-exactly s e = by-kind (eqb (e .kind) 0) refl
+alters-exactly s e = by-kind (eqb (e .kind) kinds.write) refl
   where
-    by-kind : (b : Bool) → eqb (e .kind) 0 ≡ b → altersDisplay s (request s e) ≡ paints (e .kind) (operandAt e 0) (s .direction) (s .cursor .position)
+    by-kind : (b : Bool) → eqb (e .kind) kinds.write ≡ b → altersDisplay s (request s e) ≡ paints (e .kind) (operandAt e 0) (s .direction) (s .cursor .position)
     by-kind true k = simp k (writes s (operandAt e 0) (operandAt e 1))
-    by-kind false k = simp k (reads s (operandAt e 0))
+    by-kind false k = simp k (cond-all (λ x. altersDisplay s x ≡ false) (eqb (e .kind) kinds.read) _ nothing (reads s (operandAt e 0)) refl)

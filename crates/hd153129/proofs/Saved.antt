@@ -7,47 +7,45 @@ use lib.ListN.{length, getD, take, replicate, take-append-drop}
 use lib.Seq.{take-at, getD-append-add, getD-drop}
 use Rattle.laws.specs.Bytes.{AllBytes}
 use Rattle.laws.proofs.Lists.{zeros-small, drop-list}
-use Rattle.snapshot.specs.Snapshot.{Valid, refusalOf, restoredBy, resaved}
+use Rattle.snapshot.specs.Snapshot.{Valid, refusalFor, restoredBy, resaved}
 use Rattle.snapshot.proofs.Parts.{each, parts-valid, valid-parts, places-parts}
-use Rattle.snapshot.proofs.Places as layout
+use Rattle.snapshot.proofs.Layouts as layout
+use Rattle.hd153129.specs.Facts.{number, colours, largestColour, largestRest, places, largest}
 use Rattle.hd153129.specs.State.{State, fresh}
-use Rattle.hd153129.specs.Places.{largest, tailOf, placesOf, stateFrom, saved, decodedOrFresh}
+use Rattle.hd153129.specs.Places.{behind, tailOf, placesOf, stateFrom, saved, decodedOrFresh}
 use Rattle.hd153129.proofs.Sound.{Sound}
-
-abbrev table : List ℕ
-table = 255 ∷ 2 ∷ 1 ∷ 63 ∷ 63 ∷ 255 ∷ []
 
 pub valid : (s : State) → Sound s → Valid largest (placesOf s)
 unfolding largest placesOf
 valid s v =
     let c = v .cursor in
-    let rest = each table (tailOf s) (c .address, (c .position, (v .direction, (c .heldRed, (c .heldGreen, (v .mask, tt)))))) in
-    parts-valid 768 63 table (s .colours) (tailOf s) refl (record { long = v .long; small = v .small; rest-small = rest })
+    let rest = each largestRest (tailOf s) (c .address, (c .position, (v .direction, (c .heldRed, (c .heldGreen, (v .mask, tt)))))) in
+    parts-valid colours largestColour largestRest (s .colours) (tailOf s) refl (record { long = v .long; small = v .small; rest-small = rest })
 
 pub sound : (s : State) → Valid largest (placesOf s) → Sound s
 unfolding largest placesOf
 sound s v =
-    let p = valid-parts 768 63 table (s .colours) (tailOf s) refl v in
+    let p = valid-parts colours largestColour largestRest (s .colours) (tailOf s) refl v in
     let r = p .rest-small in
     record { long = p .long; small = p .small; cursor = record { address = r 0; position = r 1; heldRed = r 3; heldGreen = r 4 }; direction = r 2; mask = r 5 }
 
 sound-from : (l : List ℕ) → Valid largest l → Sound (stateFrom l)
 unfolding largest stateFrom
 sound-from l v =
-    let p = places-parts 768 63 table l v in
-    let at : (k : ℕ) → getD l (768 + k) 0 ≤ getD table k 0 = λ k. rw (getD-drop 768 l k 0) at (p .rest-small k) in
+    let p = places-parts colours largestColour largestRest l v in
+    let at : (k : ℕ) → behind l k ≤ getD largestRest k 0 = λ k. rw (getD-drop colours l k 0) at (p .rest-small k) in
     record { long = p .long; small = p .small; cursor = record { address = at 0; position = at 1; heldRed = at 3; heldGreen = at 4 }; direction = at 2; mask = at 5 }
 
 pub sound-fresh : Sound fresh
 sound-fresh = record {
   long = refl;
-  small = zeros-small 63 768;
+  small = zeros-small largestColour colours;
   cursor = record { address = omega arith; position = omega arith; heldRed = omega arith; heldGreen = omega arith };
   direction = omega arith;
   mask = omega arith;
 }
 
-pub largest-long : length largest ≡ 774
+pub largest-long : length largest ≡ places
 unfolding largest
 largest-long = refl
 
@@ -57,13 +55,13 @@ unfolding stateFrom placesOf
 state-back s v =
     let long = v .long in
     let rest : List ℕ = tailOf s in
-    let at : (k : ℕ) → getD (s .colours ++ rest) (768 + k) 0 ≡ getD rest k 0 = λ k. rw long at (getD-append-add (s .colours) rest k 0) in
-    simp (take-at (s .colours) rest 768 long, at 0, at 1, at 2, at 3, at 4, at 5)
+    let at : (k : ℕ) → getD (s .colours ++ rest) (colours + k) 0 ≡ getD rest k 0 = λ k. rw long at (getD-append-add (s .colours) rest k 0) in
+    simp (take-at (s .colours) rest colours long, at 0, at 1, at 2, at 3, at 4, at 5)
 
--- the places of the state of 774 places are those places
+-- the places of the state of a list of places are those places
 places-back : (l : List ℕ) → length l ≡ length largest → placesOf (stateFrom l) ≡ l
 unfolding placesOf stateFrom
-places-back l h = ap (λ r. take 768 l ++ r) (sym (drop-list l 768 6 (h ∙ largest-long))) ∙ take-append-drop 768 l
+places-back l h = ap (λ r. take colours l ++ r) (sym (drop-list l colours (length largestRest) (h ∙ largest-long))) ∙ take-append-drop colours l
 
 fresh-from : stateFrom (replicate (length largest) 0) ≡ fresh
 unfolding stateFrom largest
@@ -71,7 +69,7 @@ fresh-from = refl
 
 abbrev chipLayout : layout.Layout State
 chipLayout = record {
-  chip = 2;
+  chip = number;
   table = largest;
   places = placesOf;
   from = stateFrom;
@@ -90,13 +88,17 @@ pub saved-same : (s : State) → Sound s → decodedOrFresh (saved s) ≡ s
 saved-same s v = layout.saved-same chipLayout s (valid s v) (state-back s v)
 
 -- a save of the places is a save of the state, and restoring the places is restoring the state
-pub resaved-state : (s : State) → stateFrom (resaved 2 largest (placesOf s)) ≡ decodedOrFresh (saved s)
+pub resaved-state : (s : State) → stateFrom (resaved number largest (placesOf s)) ≡ decodedOrFresh (saved s)
 resaved-state = layout.resaved-state chipLayout
 
-pub decoded-state : (b : List ℕ) → stateFrom (restoredBy 2 largest (λ l. l) (replicate 774 0) b) ≡ decodedOrFresh b
+pub decoded-state : (b : List ℕ) → stateFrom (restoredBy number largest (λ l. l) (replicate places 0) b) ≡ decodedOrFresh b
 unfolding largest
 decoded-state = layout.decoded-state chipLayout
 
 -- for every accepted snapshot, restoring and then saving gives the same bytes
-pub bytes-back : (b : List ℕ) → AllBytes b → refusalOf 2 largest b ≡ 0 → saved (decodedOrFresh b) ≡ b
+pub bytes-back : (b : List ℕ) → AllBytes b → refusalFor number largest b ≡ 0 → saved (decodedOrFresh b) ≡ b
 bytes-back = layout.bytes-back chipLayout
+
+-- the snapshot of a sound state is accepted
+pub saved-accepted : (s : State) → Sound s → refusalFor number largest (saved s) ≡ 0
+saved-accepted s v = layout.saved-accepted chipLayout s (valid s v)

@@ -6,6 +6,7 @@ use borrow.Author.Tests.{eq-eqb, ne-eqb}
 use lib.Dec.{eqb}
 use Rattle.laws.proofs.Tests.{cond-all}
 use Rattle.counters.specs.Counters.{nextAddress}
+use Rattle.event.specs.Answer.{bytesOf}
 use Rattle.colour.specs.Colour.{Cursor}
 use Rattle.colour.specs.Struct.{cursorOf}
 use Rattle.hd153129.specs.State.{State}
@@ -62,5 +63,5 @@ pub joined-by : (l l′ : List ℕ) (r : Control) (k : Cursor) (d m : ℕ) → l
 joined-by l l′ r k d m el ek ed em = λ i. record { colours = el i; cursor = ek i; direction = ed i; mask = em i }
 
 -- what is left and answered where it is known what the access asks for
-pub accessed : {before after : State} {x y : Access} {part : List ℕ} → x ≡ y → after ≡ next before y → part ≡ reply before y → Accessed before after x part
-accessed {before} e s a = record { state = s ∙ sym (ap (next before) e); answer = a ∙ sym (ap (reply before) e) }
+pub accessed : {before after : State} {x y : Access} {part : List ℕ} → x ≡ y → after ≡ next before y → part ≡ bytesOf (reply before y) → Accessed before after x part
+accessed {before} e s a = record { state = s ∙ sym (ap (next before) e); answer = a ∙ sym (ap (λ z. bytesOf (reply before z)) e) }

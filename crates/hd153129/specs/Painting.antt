@@ -5,6 +5,7 @@ use mathlib.Core.List.{List, [], _∷_}
 use lib.Dec.{T, eqb}
 use lib.ListN.{replicate}
 use Rattle.event.specs.Table.{all, AccessRow, accessBy, agrees}
+use Rattle.hd153129.specs.Facts as facts
 use Rattle.hd153129.specs.State.{State}
 use Rattle.hd153129.specs.Port.{accessRefusal, requestWrite, requestRead, request, altersDisplay}
 
@@ -17,7 +18,7 @@ paints kind selector direction position =
 abbrev pub row : ℕ → ℕ → ℕ → ℕ → Bool → AccessRow State
 row kind selector direction position alters = record {
   state = record {
-    colours = replicate 768 0;
+    colours = replicate facts.colours 0;
     cursor = record { address = 5; position = position; heldRed = 0; heldGreen = 0 };
     direction = direction;
     mask = 0;

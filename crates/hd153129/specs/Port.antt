@@ -1,10 +1,11 @@
 -- Document 01's "Chip 2": writes and reads through RS1 and RS0 (the data sheet's Table 2).
 use Prim.Native.Nat.{ℕ, _%_}
 use mathlib.Core.Bool.{Bool, true, false, cond}
-use mathlib.Core.List.{List}
 use lib.Dec.{ltb, eqb}
 use Rattle.counters.specs.Counters.{nextAddress, previousAddress}
-use Rattle.event.specs.Event.{Raw, operandAt, refused, gave, done}
+use Rattle.event.specs.Kinds as kinds
+use Rattle.event.specs.Answer.{Answer, refused, gave, done}
+use Rattle.event.specs.Event.{Raw, operandAt}
 use Rattle.colour.specs.Colour.{pointed, onward, held, stored, component}
 use Rattle.hd153129.specs.State.{State}
 
@@ -17,6 +18,7 @@ pub data Access : Type 0 where
   getAddress : Access
   getColour : Access
   getMask : Access
+  nothing : Access
 
 -- 1: a selector over 3; 3: a colour write in direction read, a colour read in direction write (`other` is the direction that refuses)
 unfoldable pub accessRefusal : ℕ → ℕ → ℕ → ℕ
@@ -25,7 +27,7 @@ accessRefusal selector direction other =
     (cond (eqb selector 1) (cond (eqb direction other) 3 0)
     0)
 
--- the selector is 2 × RS1 + RS0. Kind 0 writes operand byte 1: 0 the address with direction write, 3 the address a + 1 with direction read, 1 a colour of 6 bits, 2 the mask.
+-- the selector is 2 × RS1 + RS0. A write writes operand byte 1: 0 the address with direction write, 3 the address a + 1 with direction read, 1 a colour of 6 bits, 2 the mask.
 unfoldable pub requestWrite : ℕ → ℕ → ℕ → Access
 requestWrite direction selector byte =
     cond (eqb (accessRefusal selector direction 1) 0)
@@ -35,7 +37,7 @@ requestWrite direction selector byte =
     (setMask byte))))
     (refuse (accessRefusal selector direction 1))
 
--- kind 1 reads: 0 and 3 the address, 1 a colour, 2 the mask
+-- a read reads: 0 and 3 the address, 1 a colour, 2 the mask
 unfoldable pub requestRead : ℕ → ℕ → Access
 requestRead direction selector =
     cond (eqb (accessRefusal selector direction 0) 0)
@@ -44,8 +46,12 @@ requestRead direction selector =
     getAddress))
     (refuse (accessRefusal selector direction 0))
 
+-- no other kind is an access
 unfoldable pub request : State → Raw → Access
-request s e = cond (eqb (e .kind) 0) (requestWrite (s .direction) (operandAt e 0) (operandAt e 1)) (requestRead (s .direction) (operandAt e 0))
+request s e =
+    cond (eqb (e .kind) kinds.write) (requestWrite (s .direction) (operandAt e 0) (operandAt e 1))
+    (cond (eqb (e .kind) kinds.read) (requestRead (s .direction) (operandAt e 0))
+    nothing)
 
 -- What an access leaves. A colour write goes to the entry at the address, as chip 1's does; a colour read moves the counters on; an address read moves nothing.
 abbrev pub next : State → Access → State
@@ -57,9 +63,10 @@ next s (setMask b) = record { colours = s .colours; cursor = s .cursor; directio
 next s getAddress = s
 next s getColour = record { colours = s .colours; cursor = onward (s .cursor); direction = s .direction; mask = s .mask }
 next s getMask = s
+next s nothing = s
 
 -- what an access answers: a colour read the component of the entry before the address
-abbrev pub reply : State → Access → List ℕ
+abbrev pub reply : State → Access → Answer
 reply s (refuse n) = refused n
 reply s (setAddress a d) = done
 reply s (setColour b) = done
@@ -67,6 +74,7 @@ reply s (setMask b) = done
 reply s getAddress = gave (s .cursor .address)
 reply s getColour = gave (component (s .colours) (s .cursor) (previousAddress (s .cursor .address)))
 reply s getMask = gave (s .mask)
+reply s nothing = done
 
 -- document 01's painting access: an unrefused colour write made at position 2, or a mask write
 abbrev pub altersDisplay : State → Access → Bool
@@ -77,3 +85,4 @@ altersDisplay s (setMask b) = true
 altersDisplay s getAddress = false
 altersDisplay s getColour = false
 altersDisplay s getMask = false
+altersDisplay s nothing = false

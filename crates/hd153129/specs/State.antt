@@ -3,6 +3,7 @@ use Prim.Native.Nat.{ℕ}
 use mathlib.Core.List.{List}
 use lib.ListN.{replicate}
 use Rattle.colour.specs.Colour.{Cursor}
+use Rattle.hd153129.specs.Facts as facts
 
 -- three components of each of 256 entries; the counters and held bytes; the direction (0 write, 1 read); the pixel mask
 pub record State : Type 0 where
@@ -13,4 +14,4 @@ pub record State : Type 0 where
 
 -- a fresh chip has 0 in all places
 abbrev pub fresh : State
-fresh = record { colours = replicate 768 0; cursor = record { address = 0; position = 0; heldRed = 0; heldGreen = 0 }; direction = 0; mask = 0 }
+fresh = record { colours = replicate facts.colours 0; cursor = record { address = 0; position = 0; heldRed = 0; heldGreen = 0 }; direction = 0; mask = 0 }

@@ -1,68 +1,87 @@
-// The state as its 774 places, and back; and a save.
+// The state as its places, and back; and a save.
 ghost use mathlib.Core.Path.{_≡_};
 ghost use lib.ListN.{length, take};
 ghost use Rattle.snapshot.specs.Snapshot.{Valid};
-ghost use Rattle.hd153129.specs.Places.{largest as largestValues, placesOf, stateFrom, saved, decodedOrFresh};
+ghost use Rattle.hd153129.specs.Facts as facts;
+ghost use Rattle.hd153129.specs.Places.{placesOf, stateFrom, saved, decodedOrFresh};
 ghost use Rattle.hd153129.specs.Struct.{joined};
+use crate::COLOURS;
 use crate::Control;
+use crate::LARGEST_COLOUR;
+use crate::NUMBER;
+use crate::PLACES;
 use colour::Cursor;
 use counters::Address;
 use counters::Position;
 
-// The largest value of each place.
-pub fn largest() -> [u8; 774]
-    ensures { λ r. ⌜ r ≡ largestValues ⌝ }
+// The numbers of the places behind the colours.
+const ADDRESS: usize = COLOURS;
+
+const POSITION: usize = COLOURS + 1;
+
+const DIRECTION: usize = COLOURS + 2;
+
+const HELD_RED: usize = COLOURS + 3;
+
+const HELD_GREEN: usize = COLOURS + 4;
+
+const MASK: usize = COLOURS + 5;
+
+// The largest value of each place; held bytes are colours.
+pub fn largest() -> [u8; PLACES]
+    ensures { λ r. ⌜ r ≡ facts.largest ⌝ }
 {
-    let mut t = [63u8; 774];
-    t[768] = 255;
-    t[769] = 2;
-    t[770] = 1;
-    t[773] = 255;
+    let mut t = [LARGEST_COLOUR; PLACES];
+    t[ADDRESS] = 255;
+    t[POSITION] = 2;
+    t[DIRECTION] = 1;
+    t[MASK] = 255;
     t
 }
 
-pub fn places_of(colours: &[u8], c: Control) -> [u8; 774]
-    requires { ⌜ length (now colours) ≡ 768 ⌝ }
+pub fn places_of(colours: &[u8], c: Control) -> [u8; PLACES]
+    requires { ⌜ length (now colours) ≡ facts.colours ⌝ }
     ensures { λ r. ⌜ r ≡ placesOf (joined (now (colours .entry)) c) ⌝ }
 {
-    let mut places = [0u8; 774];
-    snapshot::copy(colours, &mut places);
+    let mut places = [0u8; PLACES];
+    bytes::copy(colours, &mut places);
     let cursor = c.cursor;
     let address = cursor.address;
     let position = cursor.position;
-    places[768] = address.0;
-    places[769] = position.0;
-    places[770] = c.direction;
-    places[771] = cursor.held_red;
-    places[772] = cursor.held_green;
-    places[773] = c.mask;
+    places[ADDRESS] = address.0;
+    places[POSITION] = position.0;
+    places[DIRECTION] = c.direction;
+    places[HELD_RED] = cursor.held_red;
+    places[HELD_GREEN] = cursor.held_green;
+    places[MASK] = c.mask;
     places
 }
 
 // The places behind the colours, as a struct.
-pub fn control_from(places: [u8; 774]) -> Control
-    ensures { λ r. ⌜ joined (take 768 places) r ≡ stateFrom places ⌝ }
+pub fn control_from(places: [u8; PLACES]) -> Control
+    ensures { λ r. ⌜ joined (take facts.colours places) r ≡ stateFrom places ⌝ }
 {
     Control {
         cursor: Cursor {
-            address: Address(places[768]),
-            position: Position(places[769]),
-            held_red: places[771],
-            held_green: places[772],
+            address: Address(places[ADDRESS]),
+            position: Position(places[POSITION]),
+            held_red: places[HELD_RED],
+            held_green: places[HELD_GREEN],
         },
-        direction: places[770],
-        mask: places[773],
+        direction: places[DIRECTION],
+        mask: places[MASK],
     }
 }
 
 // A save event does both steps for real: the state becomes a snapshot, and is restored from its bytes.
 pub fn save_and_restore(colours: &mut [u8], c: Control) -> Control
-    requires { ⌜ Valid largestValues (placesOf (joined (now colours) c)) ⌝ }
+    requires { ⌜ Valid facts.largest (placesOf (joined (now colours) c)) ⌝ }
     ensures { λ r. ⌜ joined (now (colours .exit)) r ≡ decodedOrFresh (saved (joined (now (colours .entry)) c)) ⌝ }
 {
     let mut places = places_of(colours, c);
     let t = largest();
-    snapshot::save_places(2, &t, &mut places);
-    snapshot::fill(&places, colours);
+    let mut snapshot = [0u8; 3 + 3 * PLACES];
+    snapshot::save_places(NUMBER, &t, &mut places, &mut snapshot);
+    bytes::fill(&places, colours);
     control_from(places)
 }

@@ -3,9 +3,10 @@ ghost use mathlib.Core.Path.{_≡_};
 ghost use mathlib.Core.List.{List};
 ghost use Prim.Native.Nat.{ℕ, _≤_};
 ghost use lib.ListN.{length};
-ghost use Rattle.event.specs.Event.{gave};
+ghost use Rattle.event.specs.Answer.{gave, answerLong};
 ghost use Rattle.colour.specs.Colour.{pointed};
 ghost use Rattle.colour.specs.Struct.{cursorOf};
+ghost use Rattle.hd153129.specs.Facts as facts;
 ghost use Rattle.hd153129.specs.Port.{accessRefusal, requestWrite, requestRead, next, reply};
 ghost use Rattle.hd153129.specs.Struct.{joined, Accessed};
 use crate::Control;
@@ -52,7 +53,7 @@ fn point(c: Control, address: Address, direction: u8) -> Control
 
 // A write's answer has its refusal and nothing else.
 pub fn write(colours: &mut [u8], c: Control, selector: u8, byte: u8, part: &mut [u8]) -> Control
-    requires { ⌜ (length (now colours) ≡ 768) × (c .cursor .position .0 ≤ 2) × (length (now part) ≡ 18) ⌝ }
+    requires { ⌜ (length (now colours) ≡ facts.colours) × (c .cursor .position .0 ≤ 2) × (length (now part) ≡ answerLong) ⌝ }
     ensures { λ r. ⌜ Accessed (joined (now (colours .entry)) c) (joined (now (colours .exit)) r) (requestWrite (c .direction) selector byte) (now (part .exit)) ⌝ }
 {
     let cursor = c.cursor;
@@ -69,7 +70,7 @@ pub fn write(colours: &mut [u8], c: Control, selector: u8, byte: u8, part: &mut 
         return point(c, Address(byte).next(), 1);
     }
     if selector == 1 {
-        return with_cursor(c, cursor.write(colours, colour::wide(address.0), byte % 64));
+        return with_cursor(c, cursor.write(colours, bytes::wide(address.0), byte % 64));
     }
     let mut next = c;
     next.mask = byte;
@@ -78,14 +79,14 @@ pub fn write(colours: &mut [u8], c: Control, selector: u8, byte: u8, part: &mut 
 
 // The byte that a read gives where it isn't refused.
 fn value(colours: &[u8], c: Control, selector: u8) -> u8
-    requires { ⌜ (length (now colours) ≡ 768) × (c .cursor .position .0 ≤ 2) × (accessRefusal selector (c .direction) 0 ≡ 0) ⌝ }
+    requires { ⌜ (length (now colours) ≡ facts.colours) × (c .cursor .position .0 ≤ 2) × (accessRefusal selector (c .direction) 0 ≡ 0) ⌝ }
     ensures { λ r. ⌜ gave r ≡ reply (joined (now (colours .entry)) c) (requestRead (c .direction) selector) ⌝ }
 {
     let cursor = c.cursor;
     let address = cursor.address;
     if selector == 1 {
         let before = address.previous();
-        return cursor.read(colours, colour::wide(before.0));
+        return cursor.read(colours, bytes::wide(before.0));
     }
     if selector == 2 {
         return c.mask;
@@ -106,7 +107,7 @@ fn after_read(c: Control, selector: u8) -> Control
 }
 
 pub fn read(colours: &[u8], c: Control, selector: u8, part: &mut [u8]) -> Control
-    requires { ⌜ (length (now colours) ≡ 768) × (c .cursor .position .0 ≤ 2) × (length (now part) ≡ 18) ⌝ }
+    requires { ⌜ (length (now colours) ≡ facts.colours) × (c .cursor .position .0 ≤ 2) × (length (now part) ≡ answerLong) ⌝ }
     ensures { λ r. ⌜ Accessed (joined (now (colours .entry)) c) (joined (now (colours .entry)) r) (requestRead (c .direction) selector) (now (part .exit)) ⌝ }
 {
     let refused = access_refusal(selector, c.direction, 0);

@@ -1,8 +1,10 @@
 -- A choice by a test.
-use Prim.Native.Nat.{ℕ, zero, suc, _≤_}
-use native.Mathlib.Omega.{arith}
-use mathlib.Core.Path.{_≡_, refl}
+use Prim.Native.Nat.{ℕ}
+use mathlib.Core.Path.{_≡_, refl, sym, _∙_}
 use mathlib.Core.Bool.{Bool, true, false, cond, _&&_, false≢true}
+use borrow.Author.Tests.{eq-eqb, ne-eqb, eqb-true, eqb-false}
+use lib.Dec.{eqb}
+use Rattle.laws.specs.Refusals.{orElse}
 
 -- either of two, by a test that is known where each stands
 pub cond-by {ℓ} : {A : Type ℓ} (P : A → Type 0) (b : Bool) (x y : A) → (b ≡ true → P x) → (b ≡ false → P y) → P (cond b x y)
@@ -32,10 +34,17 @@ pub needed : (b : Bool) (x n : ℕ) → (n ≡ 0 → ⊥) → cond b x n ≡ 0 �
 needed true x n h e = (refl, e)
 needed false x n h e = absurd (h e)
 
--- none of the first four numbers
-pub four : (k : ℕ) → (k ≡ 0 → ⊥) → (k ≡ 1 → ⊥) → (k ≡ 2 → ⊥) → (k ≡ 3 → ⊥) → 4 ≤ k
-four zero a b c d = absurd (a refl)
-four (suc zero) a b c d = absurd (b refl)
-four (suc (suc zero)) a b c d = absurd (c refl)
-four (suc (suc (suc zero))) a b c d = absurd (d refl)
-four (suc (suc (suc (suc k)))) a b c d = omega arith
+-- the first of two refusals is none where neither is
+pub or-none : (a b : ℕ) → orElse a b ≡ 0 → (a ≡ 0) × (b ≡ 0)
+or-none a b e = go (eqb a 0) refl e
+  where
+    go : (c : Bool) → eqb a 0 ≡ c → cond c b a ≡ 0 → (a ≡ 0) × (b ≡ 0)
+    go true h e = (eqb-true a 0 h, e)
+    go false h e = absurd (eqb-false a 0 h e)
+
+-- each by what the code found
+pub or-first : {r a : ℕ} (b : ℕ) → r ≡ a → (r ≡ 0 → ⊥) → r ≡ orElse a b
+or-first {r} {a} b e some = e ∙ sym (simp (ne-eqb a 0 (λ z. some (e ∙ z))))
+
+pub or-second : {r a : ℕ} (b : ℕ) → r ≡ a → r ≡ 0 → orElse a b ≡ b
+or-second {r} {a} b e none = simp (eq-eqb a 0 (sym e ∙ none))

@@ -9,7 +9,8 @@ use lib.Dec.{eqb, ltb, leb}
 use lib.ListN.{length, getD, set, take, drop, drop-of-length-le, length-drop}
 use lib.Seq.{drop-cons, take-all}
 use Rattle.laws.proofs.Tests.{passed, needed}
-use Rattle.snapshot.specs.Snapshot.{wordAt, wordsOf, pairsRefusal, pairRefusal, placed, countOf, numbersIn, valuesIn, refusalOf}
+use Rattle.bytes.specs.Buffer.{wordAt}
+use Rattle.snapshot.specs.Snapshot.{wordsOf, pairsRefusal, pairRefusal, placed, PlacesBelow, placeCount, numbersIn, valuesIn, refusalFor}
 
 words-more : (l : List ℕ) (j : ℕ) → 2 * j + 1 < length l → wordsOf (drop (2 * j) l) ≡ wordAt l (2 * j) ∷ wordsOf (drop (2 * (j + 1)) l)
 words-more l j h =
@@ -27,6 +28,9 @@ module _ (ns vs : List ℕ) (j p : ℕ) (h : j < length vs) (h′ : 2 * j + 1 < 
   pub placed-step : (l : List ℕ) {w : List ℕ} → placed (wordsOf (drop (2 * j) ns)) (drop j vs) l ≡ w
       → placed (wordsOf (drop (2 * (j + 1)) ns)) (drop (j + 1) vs) (set l p (getD vs j 0)) ≡ w
   placed-step l i = rw e (sym (rw (words-more ns j h′, drop-cons vs j 0 h, add-one j)) ∙ i)
+
+  pub below-step : (n : ℕ) → PlacesBelow n (wordsOf (drop (2 * j) ns)) (drop j vs) → (p < n) × PlacesBelow n (wordsOf (drop (2 * (j + 1)) ns)) (drop (j + 1) vs)
+  below-step n b = rw e (rw (words-more ns j h′, drop-cons vs j 0 h, ← add-one j) at b)
 
 pairs-none : (t : List ℕ) (least : ℕ) (ps : List ℕ) → pairsRefusal t least ps [] ≡ 0
 pairs-none t least [] = refl
@@ -68,21 +72,28 @@ pair-accepted t least p v later e =
       after = f .1;
     }
 
+pub pairs-below : (t : List ℕ) (least : ℕ) (ps vs : List ℕ) → pairsRefusal t least ps vs ≡ 0 → PlacesBelow (length t) ps vs
+pairs-below t least [] vs e = tt
+pairs-below t least (p ∷ ps) [] e = tt
+pairs-below t least (p ∷ ps) (v ∷ vs) e =
+    let a = pair-accepted t least p v (pairsRefusal t (p + 1) ps vs) e in
+    (a .inside, pairs-below t (p + 1) ps vs (a .after))
+
 -- what an accepted snapshot says
 pub record Accepted (chip : ℕ) (t s : List ℕ) : Type 0 where
   pub header : 3 ≤ length s
   pub named : getD s 0 0 ≡ chip
-  pub few : countOf s ≤ length t
-  pub long : length s ≡ 3 + 3 * countOf s
+  pub few : placeCount s ≤ length t
+  pub long : length s ≡ 3 + 3 * placeCount s
   pub pairs : pairsRefusal t 0 (numbersIn s) (valuesIn s) ≡ 0
 
-pub accepted : (chip : ℕ) (t s : List ℕ) → refusalOf chip t s ≡ 0 → Accepted chip t s
-unfolding refusalOf
+pub accepted : (chip : ℕ) (t s : List ℕ) → refusalFor chip t s ≡ 0 → Accepted chip t s
+unfolding refusalFor
 accepted chip t s e =
     let a = passed (ltb (length s) 3) 20 _ (eqb-false 20 0 refl) e in
     let b = needed (eqb (getD s 0 0) chip) _ 21 (eqb-false 21 0 refl) (a .1) in
-    let d = passed (ltb (length t) (countOf s)) 22 _ (eqb-false 22 0 refl) (b .1) in
-    let f = needed (eqb (length s) (3 + 3 * countOf s)) _ 23 (eqb-false 23 0 refl) (d .1) in
+    let d = passed (ltb (length t) (placeCount s)) 22 _ (eqb-false 22 0 refl) (b .1) in
+    let f = needed (eqb (length s) (3 + 3 * placeCount s)) _ 23 (eqb-false 23 0 refl) (d .1) in
     record {
       header = ltb-false _ _ (a .0);
       named = eqb-true _ _ (b .0);

@@ -8,7 +8,7 @@ use lib.Dec.{ltb}
 use lib.ListN.{length, getD, take, drop, replicate, length-append, length-replicate, length-drop, getD-replicate, take-append-drop, drop-of-length-le, List·getD-append, List·getD-eq-default}
 use lib.Seq.{getD-append-add, length-take-le}
 use Rattle.laws.proofs.Tests.{decide}
-use Rattle.snapshot.specs.Snapshot.{Valid, over}
+use Rattle.snapshot.specs.Snapshot.{Valid}
 
 -- what holds of the two parts
 pub record Parts (n top : ℕ) (table colours rest : List ℕ) : Type 0 where
@@ -68,9 +68,3 @@ each table [] h k = omega arith
 each [] (v ∷ vs) h k = absurd h
 each (m ∷ table) (v ∷ vs) h zero = h .0
 each (m ∷ table) (v ∷ vs) h (suc k) = each table vs (h .1) k
-
--- n elements copied over n are all that is left
-pub copied-back : (n : ℕ) (l cs : List ℕ) → n ≤ length l → length cs ≡ n → over (take n l) cs ≡ take n l
-copied-back n l cs h k =
-    let long : length (take n l) ≡ n = length-take-le n l h in
-    rw (drop-of-length-le cs {i = length (take n l)} (omega arith), append-nil)

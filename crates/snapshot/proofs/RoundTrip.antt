@@ -11,7 +11,8 @@ use lib.Dec.{eqb, ltb, eqb·suc-zero}
 use lib.ListN.{length, getD, set, take, drop, replicate, length-append, length-drop, length-take, length-replicate, replicate-append-replicate, take-append-drop}
 use lib.Seq.{getD-drop, append-snoc, set-at, take-at, drop-at, drop-drop}
 use Rattle.laws.specs.Bytes.{AllBytes}
-use Rattle.snapshot.specs.Snapshot.{numbersFrom, valuesOf, twoBytes, snapshotOf, wordsOf, pairsRefusal, placed, countOf, numbersIn, valuesIn, refusalOf, restored, restoredBy, resaved, over, Valid}
+use Rattle.bytes.specs.Buffer.{over}
+use Rattle.snapshot.specs.Snapshot.{numbersFrom, valuesOf, twoBytes, snapshotOf, wordsOf, pairsRefusal, placed, placeCount, numbersIn, valuesIn, refusalFor, restored, restoredBy, resaved, Valid}
 use Rattle.snapshot.proofs.Stores.{numbers-long, values-short, snapshot-long}
 use Rattle.snapshot.proofs.Pairs.{accepted, pair-accepted}
 
@@ -41,7 +42,7 @@ placed-back (suc x ∷ l) pre =
 
 -- what a snapshot's header says, and its two lists
 module _ (chip : ℕ) (l : List ℕ) (h : length l ≤ 65535) where
-  count-back : countOf (snapshotOf chip l) ≡ length (valuesOf l)
+  count-back : placeCount (snapshotOf chip l) ≡ length (valuesOf l)
   unfolding snapshotOf
   count-back = word-back (length (valuesOf l)) (omega (arith, values-short l))
 
@@ -68,8 +69,8 @@ unfolding snapshotOf
 chip-back chip l = refl
 
 -- the snapshot of valid places is accepted
-pub accepted-back : (chip : ℕ) (t l : List ℕ) → length t ≤ 65535 → Valid t l → refusalOf chip t (snapshotOf chip l) ≡ 0
-unfolding refusalOf
+pub accepted-back : (chip : ℕ) (t l : List ℕ) → length t ≤ 65535 → Valid t l → refusalFor chip t (snapshotOf chip l) ≡ 0
+unfolding refusalFor
 accepted-back chip t l h v =
     let h′ : length l ≤ 65535 = omega (arith, v .long) in
     let a : ltb (length (snapshotOf chip l)) 3 ≡ false = le-ltb (length (snapshotOf chip l)) 3 (omega (arith, snapshot-long chip l)) in
@@ -94,20 +95,20 @@ restored-by-back chip t l from fresh h v = simp (eq-eqb _ _ (accepted-back chip 
 -- a state is made of restored places, or places are restored and a state is made of them
 pub restored-by : {S : Type 0} (chip : ℕ) (t s z : List ℕ) (from : List ℕ → S) → from (restoredBy chip t (λ l. l) z s) ≡ restoredBy chip t from (from z) s
 unfolding restoredBy
-restored-by chip t s z from = go (eqb (refusalOf chip t s) 0)
+restored-by chip t s z from = go (eqb (refusalFor chip t s) 0)
   where
     go : (b : Bool) → from (cond b (restored (length t) s) z) ≡ cond b (from (restored (length t) s)) (from z)
     go true = refl
     go false = refl
 
 -- what decoding leaves in places that were lent
-pub decoded-by : (chip n : ℕ) (t u b z : List ℕ) → u ≡ t → n ≡ length t → cond (eqb (refusalOf chip u b) 0) (restored n b) z ≡ restoredBy chip t (λ l. l) z b
+pub decoded-by : (chip n : ℕ) (t u b z : List ℕ) → u ≡ t → n ≡ length t → cond (eqb (refusalFor chip u b) 0) (restored n b) z ≡ restoredBy chip t (λ l. l) z b
 unfolding restoredBy
 decoded-by chip n t u b z e h = rw (e, h)
 
 -- what decoding leaves in valid places, of the bytes that encoding wrote
 pub resaved-from : (chip n : ℕ) (t l room bytes : List ℕ) → Valid t l → length l ≤ 65535 → n ≡ length (snapshotOf chip l) → bytes ≡ over (snapshotOf chip l) room
-    → cond (eqb (refusalOf chip t (take (n - 0) bytes)) 0) (restored (length l) (take (n - 0) bytes)) l ≡ resaved chip t l
+    → cond (eqb (refusalFor chip t (take (n - 0) bytes)) 0) (restored (length l) (take (n - 0) bytes)) l ≡ resaved chip t l
 unfolding restoredBy
 resaved-from chip n t l room bytes v h e written =
     let s : List ℕ = snapshotOf chip l in
@@ -206,11 +207,11 @@ small-part : (s : List ℕ) (n k : ℕ) → AllBytes s → AllBytes (take n (dro
 small-part s n k h = small-take n (drop k s) (λ i. rw (getD-drop k s i 0) (h (k + i)))
 
 -- An accepted snapshot is the snapshot of the places that it gives.
-pub bytes-back : (chip : ℕ) (t s : List ℕ) → AllBytes s → refusalOf chip t s ≡ 0 → snapshotOf chip (restored (length t) s) ≡ s
+pub bytes-back : (chip : ℕ) (t s : List ℕ) → AllBytes s → refusalFor chip t s ≡ 0 → snapshotOf chip (restored (length t) s) ≡ s
 unfolding snapshotOf restored numbersIn valuesIn
 bytes-back chip t s h e =
     let a = accepted chip t s e in
-    let n : ℕ = countOf s in
+    let n : ℕ = placeCount s in
     let raw : List ℕ = take (2 * n) (drop 3 s) in
     let raw-long : length raw ≡ 2 * n = simp (length-take, length-drop) (omega (arith, a .long)) in
     let vs-long : length (drop (3 + 2 * n) s) ≡ n = simp length-drop (omega (arith, a .long)) in

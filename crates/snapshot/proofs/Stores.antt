@@ -11,7 +11,8 @@ use Rattle.laws.proofs.Tests.{decide}
 use lib.Dec.{eqb, eqb·suc-zero}
 use lib.ListN.{length, getD, set, drop, length-append, drop-of-length-le}
 use lib.Seq.{drop-cons, sets, sets-eq, set-comm}
-use Rattle.snapshot.specs.Snapshot.{numbersFrom, valuesOf, twoBytes, snapshotOf, over}
+use Rattle.bytes.specs.Buffer.{over}
+use Rattle.snapshot.specs.Snapshot.{numbersFrom, valuesOf, twoBytes, snapshotOf}
 
 pub numbers-long : (l : List ℕ) (i : ℕ) → length (twoBytes (numbersFrom i l)) ≡ 2 * length (valuesOf l)
 numbers-long [] i = refl

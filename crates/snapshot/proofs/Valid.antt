@@ -1,17 +1,17 @@
 -- Valid places: the test that a call makes and the fact place by place are the same, and an accepted snapshot gives valid places.
 use Prim.Native.Nat.{ℕ, zero, suc, _+_, _≤_, _<_}
 use mathlib.Core.Path.{_≡_, refl, sym, _∙_, ap}
-use mathlib.Core.Bool.{Bool, true, false, _&&_, and-false, false≢true}
+use mathlib.Core.Bool.{Bool, true, false, cond, _&&_, and-false, false≢true}
 use mathlib.Core.List.{List, [], _∷_}
 use native.Mathlib.Numerals.{add-one}
 use native.Mathlib.Omega.{arith}
-use borrow.Author.Tests.{le-leb, lt-leb, leb-true}
+use borrow.Author.Tests.{le-leb, lt-leb, leb-true, eqb-false}
 use lib.Dec.{leb}
 use lib.ListN.{length, getD, set, drop, replicate, length-set, length-replicate, drop-of-length-le}
 use lib.Seq.{drop-cons}
-use Rattle.laws.proofs.Tests.{both}
+use Rattle.laws.proofs.Tests.{both, needed}
 use Rattle.laws.proofs.Lists.{set-all, zeros-small}
-use Rattle.snapshot.specs.Snapshot.{within, Valid, refusalOf, pairsRefusal, placed, numbersIn, valuesIn, restored}
+use Rattle.snapshot.specs.Snapshot.{within, valueRefusal, exceptFrom, Valid, refusalFor, pairsRefusal, placed, numbersIn, valuesIn, restored}
 use Rattle.snapshot.proofs.Pairs.{pair-accepted, accepted}
 
 -- ---- the test, place by place
@@ -75,9 +75,23 @@ placed-long [] vs l = refl
 placed-long (p ∷ ps) [] l = refl
 placed-long (p ∷ ps) (v ∷ vs) l = placed-long ps vs (set l p v) ∙ length-set l p v
 
-pub restored-valid : (chip : ℕ) (t s : List ℕ) → refusalOf chip t s ≡ 0 → Valid t (restored (length t) s)
+pub restored-valid : (chip : ℕ) (t s : List ℕ) → refusalFor chip t s ≡ 0 → Valid t (restored (length t) s)
 unfolding restored
 restored-valid chip t s e = record {
   long = placed-long (numbersIn s) (valuesIn s) (replicate (length t) 0) ∙ length-replicate (length t) 0;
   small = placed-small t 0 (numbersIn s) (valuesIn s) (replicate (length t) 0) (accepted chip t s e .pairs) (λ i. zeros-small (getD t i 0) (length t) i);
 }
+
+-- a refusal for values, and the fact
+pub fitting : (t l : List ℕ) → valueRefusal t l ≡ 0 → Valid t l
+unfolding valueRefusal
+fitting t l e = valid t l (needed (within t l) 0 25 (eqb-false 25 0 refl) e .0)
+
+pub fits : (t l : List ℕ) → Valid t l → valueRefusal t l ≡ 0
+unfolding valueRefusal
+fits t l v = simp (valid-within t l v)
+
+-- values with 0 at no place
+pub except-none : (test : ℕ → Bool) (i : ℕ) (l : List ℕ) → ((n : ℕ) → test n ≡ false) → exceptFrom i test l ≡ l
+except-none test i [] none = refl
+except-none test i (x ∷ l) none = (λ k. cond (none i k) 0 x ∷ exceptFrom (suc i) test l) ∙ ap (λ r. x ∷ r) (except-none test (suc i) l none)

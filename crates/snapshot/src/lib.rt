@@ -3,17 +3,13 @@ ghost use mathlib.Core.Path.{_≡_};
 ghost use mathlib.Core.Bool.{cond};
 ghost use Prim.Native.Nat.{_+_, _*_, _<_, _≤_};
 ghost use lib.Dec.{eqb};
-ghost use lib.ListN.{length, take, replicate};
+ghost use lib.ListN.{length, replicate};
 ghost use lib.Seq.{sets};
-ghost use Rattle.snapshot.specs.Snapshot.{mostPlaces, within as fits, numbersFrom, valuesOf, twoBytes, snapshotOf, over, wordAt, wordsOf, pairsRefusal, placed, refusalOf, resaved, Valid, Decoded};
-
-// The most places that a chip has, and the bytes of a snapshot of so many.
-pub const MOST_PLACES: usize = 789;
-
-pub const MOST_BYTES: usize = 3 + 3 * MOST_PLACES;
+ghost use Rattle.bytes.specs.Buffer.{over};
+ghost use Rattle.snapshot.specs.Snapshot.{roomFor, within as fits, valueRefusal, numbersFrom, valuesOf, twoBytes, snapshotOf, wordsOf, pairsRefusal, placed, PlacesBelow, refusalFor, resaved, Valid, Decoded};
 
 // As many places as the table has, each at most its largest value.
-pub fn within(largest: &[u8], places: &[u8]) -> bool
+fn within(largest: &[u8], places: &[u8]) -> bool
     ensures { λ r. ⌜ r ≡ fits (now (largest .entry)) (now (places .entry)) ⌝ }
 {
     if largest.len() != places.len() {
@@ -29,8 +25,18 @@ pub fn within(largest: &[u8], places: &[u8]) -> bool
     true
 }
 
-// 1 where a place isn't 0.
-fn some(x: u8) -> u16
+// 25 where a value is above its place's largest, or 0.
+pub fn value_refusal(largest: &[u8], places: &[u8]) -> u8
+    ensures { λ r. ⌜ r ≡ valueRefusal (now (largest .entry)) (now (places .entry)) ⌝ }
+{
+    if within(largest, places) {
+        return 0;
+    }
+    25
+}
+
+// What a place adds to the count of those that aren't 0.
+fn one_unless_zero(x: u8) -> u16
     ensures { λ r. ⌜ (r ≡ cond (eqb x 0) 0 1) × (r ≤ 1) ⌝ }
 {
     if x == 0 {
@@ -47,7 +53,7 @@ fn count(places: &[u8]) -> usize
     let mut n: u16 = 0;
     let mut i = 0;
     while i < places.len() {
-        n += some(places[i]);
+        n += one_unless_zero(places[i]);
         i += 1;
     }
     n as usize
@@ -55,20 +61,21 @@ fn count(places: &[u8]) -> usize
 
 // The numbers of the n places that aren't 0, two bytes each, behind the header of out, and behind them their values.
 fn put_pairs(places: &[u8], out: &mut [u8], n: usize)
-    requires { ⌜ (length (now places) ≤ 65535) × (n ≡ length (valuesOf (now places))) × (3 + 3 * length (now places) ≤ length (now out)) ⌝ }
+    requires { ⌜ (length (now places) ≤ 65535) × (n ≡ length (valuesOf (now places))) × (roomFor (length (now places)) ≤ length (now out)) ⌝ }
     ensures { λ _. ⌜ now (out .exit) ≡ sets (sets (now (out .entry)) 3 (twoBytes (numbersFrom 0 (now (places .entry))))) (3 + 2 * n) (valuesOf (now (places .entry))) ⌝ }
 {
     let mut i = 0;
     let mut k: usize = 3;
     let mut v = 3 + 2 * n;
     while i < places.len() {
-        if places[i] == 0 {
+        let byte = places[i]; // read once: the compiler can't tell that out doesn't overlap
+        if byte == 0 {
             i += 1;
             continue;
         }
         out[k] = (i % 256) as u8;
         out[k + 1] = (i / 256 % 256) as u8;
-        out[v] = places[i];
+        out[v] = byte;
         k += 2;
         v += 1;
         i += 1;
@@ -77,7 +84,7 @@ fn put_pairs(places: &[u8], out: &mut [u8], n: usize)
 
 // The snapshot at the start of out; its length. For our crates: the caller has made sure of the room.
 pub fn encode(chip: u8, places: &[u8], out: &mut [u8]) -> usize
-    requires { ⌜ (length (now places) ≤ 65535) × (3 + 3 * length (now places) ≤ length (now out)) ⌝ }
+    requires { ⌜ (length (now places) ≤ 65535) × (roomFor (length (now places)) ≤ length (now out)) ⌝ }
     ensures { λ r. ⌜ (r ≡ length (snapshotOf chip (now (places .entry)))) × (now (out .exit) ≡ over (snapshotOf chip (now (places .entry))) (now (out .entry))) ⌝ }
 {
     let n = count(places);
@@ -88,20 +95,6 @@ pub fn encode(chip: u8, places: &[u8], out: &mut [u8]) -> usize
     3 + 3 * n
 }
 
-fn wide(x: u8) -> usize
-    ensures { λ r. ⌜ (r ≡ x) × (r < 256) ⌝ }
-{
-    x as usize
-}
-
-// The number of the two bytes at i.
-fn word(s: &[u8], i: usize) -> usize
-    requires { ⌜ i + 1 < length (now s) ⌝ }
-    ensures { λ r. ⌜ (r ≡ wordAt (now (s .entry)) i) × (r < 65536) ⌝ }
-{
-    wide(s[i]) + 256 * wide(s[i + 1])
-}
-
 // 24 or 25 for the first pair that has it, or 0.
 fn check_pairs(largest: &[u8], numbers: &[u8], values: &[u8]) -> u8
     requires { ⌜ length (now numbers) ≡ 2 * length (now values) ⌝ }
@@ -110,7 +103,7 @@ fn check_pairs(largest: &[u8], numbers: &[u8], values: &[u8]) -> u8
     let mut least: usize = 0;
     let mut j = 0;
     while j < values.len() {
-        let place = word(numbers, 2 * j);
+        let place = bytes::word(numbers, 2 * j);
         let value = values[j];
         if place < least {
             return 24;
@@ -132,7 +125,7 @@ fn check_pairs(largest: &[u8], numbers: &[u8], values: &[u8]) -> u8
 
 // The refusal of a snapshot, 20 to 25, or 0. A chip that has a check of its own makes it after this one.
 pub fn check(chip: u8, largest: &[u8], s: &[u8]) -> u8
-    ensures { λ r. ⌜ r ≡ refusalOf chip (now (largest .entry)) (now (s .entry)) ⌝ }
+    ensures { λ r. ⌜ r ≡ refusalFor chip (now (largest .entry)) (now (s .entry)) ⌝ }
 {
     if s.len() < 3 {
         return 20;
@@ -140,7 +133,7 @@ pub fn check(chip: u8, largest: &[u8], s: &[u8]) -> u8
     if s[0] != chip {
         return 21;
     }
-    let n = word(s, 1);
+    let n = bytes::word(s, 1);
     if largest.len() < n {
         return 22;
     }
@@ -161,65 +154,40 @@ fn clear(places: &mut [u8])
     }
 }
 
-// Each value stored at its place.
+// Each value stored at its place; the places have been checked.
 fn put_places(numbers: &[u8], values: &[u8], places: &mut [u8])
-    requires { ⌜ length (now numbers) ≡ 2 * length (now values) ⌝ }
+    requires { ⌜ (length (now numbers) ≡ 2 * length (now values)) × PlacesBelow (length (now places)) (wordsOf (now numbers)) (now values) ⌝ }
     ensures { λ r. ⌜ now (places .exit) ≡ placed (wordsOf (now (numbers .entry))) (now (values .entry)) (now (places .entry)) ⌝ }
 {
     let mut j = 0;
     while j < values.len() {
-        let place = word(numbers, 2 * j);
-        if place < places.len() {
-            places[place] = values[j];
-            j += 1;
-            continue;
-        }
+        let place = bytes::word(numbers, 2 * j);
+        places[place] = values[j];
         j += 1;
     }
 }
 
-// The places that a snapshot gives, into places; or its refusal, with places unchanged.
+// The places that a snapshot gives, into places; or its refusal, with places unchanged. For our crates: as many places as the table has are lent.
 pub fn decode(chip: u8, largest: &[u8], s: &[u8], places: &mut [u8]) -> u8
+    requires { ⌜ length (now places) ≡ length (now largest) ⌝ }
     ensures { λ r. ⌜ Decoded chip (now (largest .entry)) (now (s .entry)) (now (places .entry)) r (now (places .exit)) ⌝ }
 {
     let r = check(chip, largest, s);
     if r != 0 {
         return r;
     }
-    let n = word(s, 1);
+    let n = bytes::word(s, 1);
     let mid = 3 + 2 * n;
     clear(places);
     put_places(&s[3..mid], &s[mid..], places);
     0
 }
 
-// A save: the places turned into a snapshot, and restored from its bytes, both for real. For our crates: the places are valid, so their snapshot is accepted.
-pub fn save_places(chip: u8, largest: &[u8], places: &mut [u8])
-    requires { ⌜ Valid (now largest) (now places) × (length (now places) ≤ mostPlaces) ⌝ }
-    ensures { λ _. ⌜ now (places .exit) ≡ resaved chip (now (largest .entry)) (now (places .entry)) ⌝ }
+// A save: the places turned into a snapshot in the lent bytes, and restored from them, both for real. For our crates: the places are valid, so their snapshot is accepted, and the bytes have room for it.
+pub fn save_places(chip: u8, largest: &[u8], places: &mut [u8], bytes: &mut [u8])
+    requires { ⌜ Valid (now largest) (now places) × (length (now places) ≤ 65535) × (roomFor (length (now places)) ≤ length (now bytes)) ⌝ }
+    ensures { λ _. ⌜ (now (places .exit) ≡ resaved chip (now (largest .entry)) (now (places .entry))) × (now (bytes .exit) ≡ over (snapshotOf chip (now (places .entry))) (now (bytes .entry))) ⌝ }
 {
-    let mut bytes = [0u8; MOST_BYTES];
-    let n = encode(chip, places, &mut bytes);
+    let n = encode(chip, places, bytes);
     decode(chip, largest, &bytes[0..n], places);
-}
-
-// Copies from over the start of to.
-pub fn copy(from: &[u8], to: &mut [u8])
-    requires { ⌜ length (now from) ≤ length (now to) ⌝ }
-    ensures { λ _. ⌜ now (to .exit) ≡ over (now (from .entry)) (now (to .entry)) ⌝ }
-{
-    let mut i = 0;
-    while i < from.len() {
-        to[i] = from[i];
-        i += 1;
-    }
-}
-
-// Copies the start of from over all of to.
-pub fn fill(from: &[u8], to: &mut [u8])
-    requires { ⌜ length (now to) ≤ length (now from) ⌝ }
-    ensures { λ _. ⌜ now (to .exit) ≡ take (length (now (to .entry))) (now (from .entry)) ⌝ }
-{
-    let n = to.len();
-    copy(&from[0..n], to);
 }

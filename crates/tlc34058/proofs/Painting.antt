@@ -5,9 +5,11 @@ use mathlib.Core.Bool.{Bool, true, false, _||_, or-false}
 use native.Mathlib.Omega.{arith}
 use borrow.Author.Tests.{ne-eqb, lt-ltb, le-ltb}
 use lib.Dec.{eqb, ltb}
+use Rattle.laws.proofs.Tests.{cond-all}
+use Rattle.event.specs.Kinds as kinds
 use Rattle.event.specs.Event.{Raw, operandAt}
 use Rattle.tlc34058.specs.State.{Port}
-use Rattle.tlc34058.specs.Port.{accessRefusal, select, writing, request, altersDisplay}
+use Rattle.tlc34058.specs.Port.{accessRefusal, nothing, select, writing, request, altersDisplay}
 use Rattle.tlc34058.specs.Painting.{paints}
 use Rattle.tlc34058.proofs.Sound.{select-all}
 
@@ -42,8 +44,11 @@ writes p (suc (suc (suc (suc k)))) a b =
 
 pub alters-exactly : (p : Port) (e : Raw) → altersDisplay p (request p e) ≡ paints (e .kind) (operandAt e 0) (p .cursor .address) (p .cursor .position)
 unfolding request
-alters-exactly p e = by-kind (eqb (e .kind) 0) refl
+alters-exactly p e = by-kind (eqb (e .kind) kinds.write) refl
   where
-    by-kind : (b : Bool) → eqb (e .kind) 0 ≡ b → altersDisplay p (request p e) ≡ paints (e .kind) (operandAt e 0) (p .cursor .address) (p .cursor .position)
+    by-kind : (b : Bool) → eqb (e .kind) kinds.write ≡ b → altersDisplay p (request p e) ≡ paints (e .kind) (operandAt e 0) (p .cursor .address) (p .cursor .position)
     by-kind true k = simp k (writes p (operandAt e 0) (p .cursor .address) (operandAt e 1))
-    by-kind false k = simp k (select-all (λ x. altersDisplay p x ≡ false) (operandAt e 0) (p .cursor .address) _ _ _ (λ n. refl) refl (λ n. refl) (λ n. refl))
+    by-kind false k =
+        simp k
+        (cond-all (λ x. altersDisplay p x ≡ false) (eqb (e .kind) kinds.read) _ nothing
+        (select-all (λ x. altersDisplay p x ≡ false) (operandAt e 0) (p .cursor .address) _ _ _ (λ n. refl) refl (λ n. refl) (λ n. refl)) refl)

@@ -8,6 +8,7 @@ use native.Mathlib.Nat.{div-div-eq-div-mul, pow-suc, div-one}
 use native.Mathlib.Omega.{arith}
 use lib.ListN.{length, getD, set, take, length-set}
 use lib.Seq.{take-suc-set, take-all}
+use Rattle.event.specs.Answer.{bytesOf}
 use Rattle.tlc34058.specs.State.{Port, Display}
 use Rattle.tlc34058.specs.Tick.{pixelCount, blinkOn, codeAt, codesUpTo, shownPixels, undefinedBits, tick}
 
@@ -67,6 +68,6 @@ first-three (x ∷ y ∷ z ∷ l) a b c h = refl
 pub ticked : (p : Port) (d : Display) (o part l : List ℕ) (on : Bool) (n count : ℕ) → undefinedBits o ≡ false → 3 ≤ length part →
     count ≡ pixelCount (p .registers .command) → on ≡ blinkOn (p .registers .command) (d .blink) → n ≡ shownPixels (p .registers .command) (getD o 7 0) →
     l ≡ take 3 (set (set (set part 0 0) 1 count) 2 (getD o 7 0)) ++ codesUpTo (codeAt (p .colours) (p .registers) on n o) 5 →
-    l ≡ tick p d o
-unfolding tick
+    l ≡ bytesOf (tick p d o)
+unfolding tick bytesOf codesUpTo
 ticked p d o part l on n count u h ec eo en e = e ∙ rw (first-three part 0 count (getD o 7 0) h, ec, eo, en, u)

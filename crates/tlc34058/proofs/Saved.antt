@@ -7,18 +7,16 @@ use lib.ListN.{length, getD, take, replicate, take-append-drop}
 use lib.Seq.{take-at, getD-append-add, getD-drop}
 use Rattle.laws.specs.Bytes.{AllBytes}
 use Rattle.laws.proofs.Lists.{zeros-small, drop-list}
-use Rattle.snapshot.specs.Snapshot.{Valid, refusalOf, restoredBy, resaved}
+use Rattle.snapshot.specs.Snapshot.{Valid, refusalFor, restoredBy, resaved}
 use Rattle.snapshot.proofs.Parts.{Parts, each, parts-valid, valid-parts, places-parts}
-use Rattle.snapshot.proofs.Places as layout
+use Rattle.snapshot.proofs.Layouts as layout
+use Rattle.tlc34058.specs.Facts.{number, colours, largestColour, largestRest, places, largest}
 use Rattle.tlc34058.specs.State.{State, fresh}
-use Rattle.tlc34058.specs.Places.{largest, tailOf, placesOf, stateFrom, saved, decodedOrFresh}
+use Rattle.tlc34058.specs.Places.{behind, tailOf, placesOf, stateFrom, saved, decodedOrFresh}
 use Rattle.tlc34058.proofs.Sound.{Sound}
 
-abbrev table : List ℕ
-table = 255 ∷ 2 ∷ 255 ∷ 255 ∷ 255 ∷ 255 ∷ 255 ∷ 255 ∷ 127 ∷ []
-
 -- the colours and the rest within their bounds are a sound state
-sound-parts : (s : State) → Parts 780 255 table (s .port .colours) (tailOf s) → Sound s
+sound-parts : (s : State) → Parts colours largestColour largestRest (s .port .colours) (tailOf s) → Sound s
 sound-parts s p =
     let r = p .rest-small in
     record {
@@ -31,30 +29,30 @@ sound-parts s p =
       blink = r 8;
     }
 
-parts-sound : (s : State) → Sound s → Parts 780 255 table (s .port .colours) (tailOf s)
+parts-sound : (s : State) → Sound s → Parts colours largestColour largestRest (s .port .colours) (tailOf s)
 parts-sound s v =
     let c = v .port .cursor in
     let r = v .port .registers in
     record {
       long = v .port .long;
       small = v .port .small;
-      rest-small = each table (tailOf s)
+      rest-small = each largestRest (tailOf s)
           (c .address, (c .position, (c .heldRed, (c .heldGreen, (r .readMask, (r .blinkMask, (r .command, (r .test, (v .blink, tt)))))))));
     }
 
 pub valid : (s : State) → Sound s → Valid largest (placesOf s)
 unfolding largest placesOf
-valid s v = parts-valid 780 255 table (s .port .colours) (tailOf s) refl (parts-sound s v)
+valid s v = parts-valid colours largestColour largestRest (s .port .colours) (tailOf s) refl (parts-sound s v)
 
 pub sound : (s : State) → Valid largest (placesOf s) → Sound s
 unfolding largest placesOf
-sound s v = sound-parts s (valid-parts 780 255 table (s .port .colours) (tailOf s) refl v)
+sound s v = sound-parts s (valid-parts colours largestColour largestRest (s .port .colours) (tailOf s) refl v)
 
 sound-from : (l : List ℕ) → Valid largest l → Sound (stateFrom l)
 unfolding largest stateFrom
 sound-from l v =
-    let p = places-parts 780 255 table l v in
-    let at : (k : ℕ) → getD l (780 + k) 0 ≤ getD table k 0 = λ k. rw (getD-drop 780 l k 0) at (p .rest-small k) in
+    let p = places-parts colours largestColour largestRest l v in
+    let at : (k : ℕ) → behind l k ≤ getD largestRest k 0 = λ k. rw (getD-drop colours l k 0) at (p .rest-small k) in
     record {
       port = record {
         long = p .long;
@@ -69,14 +67,14 @@ pub sound-fresh : Sound fresh
 sound-fresh = record {
   port = record {
     long = refl;
-    small = zeros-small 255 780;
+    small = zeros-small largestColour colours;
     cursor = record { address = omega arith; position = omega arith; heldRed = omega arith; heldGreen = omega arith };
     registers = record { readMask = omega arith; blinkMask = omega arith; command = omega arith; test = omega arith };
   };
   blink = omega arith;
 }
 
-pub largest-long : length largest ≡ 789
+pub largest-long : length largest ≡ places
 unfolding largest
 largest-long = refl
 
@@ -86,13 +84,13 @@ unfolding stateFrom placesOf
 state-back s v =
     let long = v .port .long in
     let rest : List ℕ = tailOf s in
-    let at : (k : ℕ) → getD (s .port .colours ++ rest) (780 + k) 0 ≡ getD rest k 0 = λ k. rw long at (getD-append-add (s .port .colours) rest k 0) in
-    simp (take-at (s .port .colours) rest 780 long, at 0, at 1, at 2, at 3, at 4, at 5, at 6, at 7, at 8)
+    let at : (k : ℕ) → getD (s .port .colours ++ rest) (colours + k) 0 ≡ getD rest k 0 = λ k. rw long at (getD-append-add (s .port .colours) rest k 0) in
+    simp (take-at (s .port .colours) rest colours long, at 0, at 1, at 2, at 3, at 4, at 5, at 6, at 7, at 8)
 
--- the places of the state of 789 places are those places
+-- the places of the state of a list of places are those places
 places-back : (l : List ℕ) → length l ≡ length largest → placesOf (stateFrom l) ≡ l
 unfolding placesOf stateFrom
-places-back l h = ap (λ r. take 780 l ++ r) (sym (drop-list l 780 9 (h ∙ largest-long))) ∙ take-append-drop 780 l
+places-back l h = ap (λ r. take colours l ++ r) (sym (drop-list l colours (length largestRest) (h ∙ largest-long))) ∙ take-append-drop colours l
 
 fresh-from : stateFrom (replicate (length largest) 0) ≡ fresh
 unfolding stateFrom largest
@@ -100,7 +98,7 @@ fresh-from = refl
 
 abbrev chipLayout : layout.Layout State
 chipLayout = record {
-  chip = 1;
+  chip = number;
   table = largest;
   places = placesOf;
   from = stateFrom;
@@ -119,13 +117,17 @@ pub saved-same : (s : State) → Sound s → decodedOrFresh (saved s) ≡ s
 saved-same s v = layout.saved-same chipLayout s (valid s v) (state-back s v)
 
 -- a save of the places is a save of the state, and restoring the places is restoring the state
-pub resaved-state : (s : State) → stateFrom (resaved 1 largest (placesOf s)) ≡ decodedOrFresh (saved s)
+pub resaved-state : (s : State) → stateFrom (resaved number largest (placesOf s)) ≡ decodedOrFresh (saved s)
 resaved-state = layout.resaved-state chipLayout
 
-pub decoded-state : (b : List ℕ) → stateFrom (restoredBy 1 largest (λ l. l) (replicate 789 0) b) ≡ decodedOrFresh b
+pub decoded-state : (b : List ℕ) → stateFrom (restoredBy number largest (λ l. l) (replicate places 0) b) ≡ decodedOrFresh b
 unfolding largest
 decoded-state = layout.decoded-state chipLayout
 
 -- for every accepted snapshot, restoring and then saving gives the same bytes
-pub bytes-back : (b : List ℕ) → AllBytes b → refusalOf 1 largest b ≡ 0 → saved (decodedOrFresh b) ≡ b
+pub bytes-back : (b : List ℕ) → AllBytes b → refusalFor number largest b ≡ 0 → saved (decodedOrFresh b) ≡ b
 bytes-back = layout.bytes-back chipLayout
+
+-- the snapshot of a sound state is accepted
+pub saved-accepted : (s : State) → Sound s → refusalFor number largest (saved s) ≡ 0
+saved-accepted s v = layout.saved-accepted chipLayout s (valid s v)

@@ -5,6 +5,7 @@ use mathlib.Core.List.{List}
 use borrow.Author.Tests.{eq-eqb, ne-eqb, eqb-false, ltb-false}
 use lib.Dec.{ltb}
 use Rattle.laws.proofs.Tests.{passed}
+use Rattle.event.specs.Answer.{bytesOf}
 use Rattle.colour.specs.Colour.{Cursor}
 use Rattle.colour.specs.Struct.{cursorOf}
 use Rattle.tlc34058.specs.State.{Registers, State}
@@ -79,8 +80,8 @@ joined-by l l′ r c k g el ek eg eb = λ i. record { port = record { colours = 
 
 -- what is left and answered where it is known what the access asks for
 pub accessed : {before after : State} {x y : Access} {part : List ℕ} → x ≡ y
-    → after ≡ record { port = next (before .port) y; display = before .display } → part ≡ reply (before .port) y → Accessed before after x part
+    → after ≡ record { port = next (before .port) y; display = before .display } → part ≡ bytesOf (reply (before .port) y) → Accessed before after x part
 accessed {before} {after} {x} {y} {part} e s a = record {
   state = s ∙ sym (ap (λ z. record { port = next (before .port) z; display = before .display }) e);
-  answer = a ∙ sym (ap (reply (before .port)) e);
+  answer = a ∙ sym (ap (λ z. bytesOf (reply (before .port) z)) e);
 }

@@ -8,9 +8,11 @@ use Rattle.laws.proofs.Tests.{cond-all}
 use Rattle.event.specs.Event.{Raw, operandAt}
 use Rattle.colour.specs.Colour.{Cursor}
 use Rattle.colour.proofs.Laws as colour
+use Rattle.event.specs.Kinds as kinds
+use Rattle.tlc34058.specs.Facts as facts
 use Rattle.tlc34058.specs.State.{Registers, Port, Display, State}
-use Rattle.tlc34058.specs.Port.{Access, refuse, setAddress, setColour, setRegister, getAddress, getColour, getRegister, accessRefusal, select, request, withRegister, next}
-use Rattle.tlc34058.specs.Tick.{turn}
+use Rattle.tlc34058.specs.Port.{Access, refuse, setAddress, setColour, setRegister, getAddress, getColour, getRegister, nothing, accessRefusal, select, request, withRegister, next}
+use Rattle.tlc34058.specs.Tick.{later, displayAfter}
 
 pub record SoundRegisters (r : Registers) : Type 0 where
   pub readMask : r .readMask ≤ 255
@@ -19,8 +21,8 @@ pub record SoundRegisters (r : Registers) : Type 0 where
   pub test : r .test ≤ 255
 
 pub record SoundPort (p : Port) : Type 0 where
-  pub long : length (p .colours) ≡ 780
-  pub small : (i : ℕ) → getD (p .colours) i 0 ≤ 255
+  pub long : length (p .colours) ≡ facts.colours
+  pub small : (i : ℕ) → getD (p .colours) i 0 ≤ facts.largestColour
   pub cursor : colour.Sound 255 (p .cursor)
   pub registers : SoundRegisters (p .registers)
 
@@ -37,6 +39,7 @@ Byte (setRegister a b) = b ≤ 255
 Byte getAddress = Unit {0}
 Byte (getColour e) = Unit {0}
 Byte (getRegister a) = Unit {0}
+Byte nothing = Unit {0}
 
 -- what holds of every access that a selector can come to
 pub select-all : (P : Access → Type 0) (n a : ℕ) (x : Access) (f g : ℕ → Access) → ((k : ℕ) → P (refuse k)) → P x → ((k : ℕ) → P (f k)) → ((k : ℕ) → P (g k)) → P (select n a x f g)
@@ -51,9 +54,11 @@ select-all P n a x f g r hx hf hg =
 pub request-byte : (p : Port) (e : Raw) → operandAt e 1 ≤ 255 → Byte (request p e)
 unfolding request
 request-byte p e h =
-    cond-all Byte (eqb (e .kind) 0) _ _
+    cond-all Byte (eqb (e .kind) kinds.write) _ _
     (select-all Byte (operandAt e 0) (p .cursor .address) _ _ _ (λ k. tt) h (λ k. h) (λ k. h))
+    (cond-all Byte (eqb (e .kind) kinds.read) _ nothing
     (select-all Byte (operandAt e 0) (p .cursor .address) _ _ _ (λ k. tt) tt (λ k. tt) (λ k. tt))
+    tt)
 
 sound-register : (r : Registers) (a b : ℕ) → b ≤ 255 → SoundRegisters r → SoundRegisters (withRegister r a b)
 unfolding withRegister
@@ -80,8 +85,9 @@ sound-next p (setRegister a b) h v = record { long = v .long; small = v .small; 
 sound-next p getAddress h v = with-cursor p _ v (colour.sound-pointed 255 (p .cursor) (p .cursor .address) (v .cursor .address) (v .cursor))
 sound-next p (getColour e) h v = with-cursor p _ v (colour.sound-onward 255 (p .cursor) (v .cursor))
 sound-next p (getRegister a) h v = v
+sound-next p nothing h v = v
 
-pub sound-turn : (d : Display) (e : Raw) → d .blink ≤ 127 → turn d e .blink ≤ 127
-sound-turn d e h =
+pub sound-after : (d : Display) (e : Raw) → d .blink ≤ 127 → displayAfter d e .blink ≤ 127
+sound-after d e h =
     let small : (d .blink + 1) % 128 ≤ 127 = omega arith in
-    cond-all (λ x. x .blink ≤ 127) (eqb (e .kind) 2) d (record { blink = (d .blink + 1) % 128 }) h small
+    cond-all (λ x. x .blink ≤ 127) (eqb (e .kind) kinds.vertical) (later d) d small h

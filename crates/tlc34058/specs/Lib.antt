@@ -1,4 +1,5 @@
--- TLC34058, document 01's chip 1: its state, its port, its tick, its places, and the machine that they make.
+-- TLC34058, document 01's chip 1: its numbers, its state, its port, its tick, its places, and the machine that they make.
+pub mod Facts
 pub mod State
 pub mod Port
 pub mod Tick

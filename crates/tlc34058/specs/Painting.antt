@@ -5,6 +5,7 @@ use mathlib.Core.List.{List, [], _∷_}
 use lib.Dec.{T, eqb, ltb}
 use lib.ListN.{replicate}
 use Rattle.event.specs.Table.{all, AccessRow, accessBy, agrees}
+use Rattle.tlc34058.specs.Facts as facts
 use Rattle.tlc34058.specs.State.{Port}
 use Rattle.tlc34058.specs.Port.{accessRefusal, select, request, altersDisplay}
 
@@ -20,7 +21,7 @@ paints kind selector address position =
 abbrev pub row : ℕ → ℕ → ℕ → ℕ → Bool → AccessRow Port
 row kind selector address position alters = record {
   state = record {
-    colours = replicate 780 0;
+    colours = replicate facts.colours 0;
     cursor = record { address = address; position = position; heldRed = 0; heldGreen = 0 };
     registers = record { readMask = 0; blinkMask = 0; command = 0; test = 0 };
   };

@@ -1,9 +1,10 @@
 -- Document 01's "Chip 1 port": writes and reads through C1 and C0.
 use Prim.Native.Nat.{ℕ, _+_}
 use mathlib.Core.Bool.{Bool, false, cond}
-use mathlib.Core.List.{List}
 use lib.Dec.{ltb, eqb}
-use Rattle.event.specs.Event.{Raw, operandAt, refused, gave, done}
+use Rattle.event.specs.Kinds as kinds
+use Rattle.event.specs.Answer.{Answer, refused, gave, done}
+use Rattle.event.specs.Event.{Raw, operandAt}
 use Rattle.colour.specs.Colour.{pointed, onward, held, stored, component}
 use Rattle.tlc34058.specs.State.{Registers, Port}
 
@@ -16,6 +17,7 @@ pub data Access : Type 0 where
   getAddress : Access
   getColour : ℕ → Access
   getRegister : ℕ → Access
+  nothing : Access
 
 -- 1: a selector over 3; 2: an overlay access with the address over 3, or a control access with the address outside 4 to 7
 unfoldable pub accessRefusal : ℕ → ℕ → ℕ
@@ -41,9 +43,12 @@ writing address selector byte = select selector address (setAddress byte) (λ n.
 abbrev pub reading : ℕ → ℕ → Access
 reading address selector = select selector address getAddress getColour getRegister
 
--- kind 0 writes operand byte 1; kind 1 reads
+-- a write writes operand byte 1, a read reads; no other kind is an access
 unfoldable pub request : Port → Raw → Access
-request p e = cond (eqb (e .kind) 0) (writing (p .cursor .address) (operandAt e 0) (operandAt e 1)) (reading (p .cursor .address) (operandAt e 0))
+request p e =
+    cond (eqb (e .kind) kinds.write) (writing (p .cursor .address) (operandAt e 0) (operandAt e 1))
+    (cond (eqb (e .kind) kinds.read) (reading (p .cursor .address) (operandAt e 0))
+    nothing)
 
 -- the register at an address from 04h to 07h
 unfoldable pub register : Registers → ℕ → ℕ
@@ -65,9 +70,10 @@ next p (setRegister a b) = record { colours = p .colours; cursor = p .cursor; re
 next p getAddress = record { colours = p .colours; cursor = pointed (p .cursor) (p .cursor .address); registers = p .registers }
 next p (getColour e) = record { colours = p .colours; cursor = onward (p .cursor); registers = p .registers }
 next p (getRegister a) = p
+next p nothing = p
 
 -- what an access answers
-abbrev pub reply : Port → Access → List ℕ
+abbrev pub reply : Port → Access → Answer
 reply p (refuse n) = refused n
 reply p (setAddress b) = done
 reply p (setColour e b) = done
@@ -75,6 +81,7 @@ reply p (setRegister a b) = done
 reply p getAddress = gave (p .cursor .address)
 reply p (getColour e) = gave (component (p .colours) (p .cursor) e)
 reply p (getRegister a) = gave (register (p .registers) a)
+reply p nothing = done
 
 -- document 01's painting access: an unrefused colour write made at position 2, or an unrefused control write at 04h, 05h or 06h
 abbrev pub altersDisplay : Port → Access → Bool
@@ -85,6 +92,7 @@ altersDisplay p (setRegister a b) = ltb a 7
 altersDisplay p getAddress = false
 altersDisplay p (getColour e) = false
 altersDisplay p (getRegister a) = false
+altersDisplay p nothing = false
 
 -- no access's answer looks at what display events move
 abbrev pub looksAtDisplay : Port → Access → Bool

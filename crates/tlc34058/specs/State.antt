@@ -3,6 +3,7 @@ use Prim.Native.Nat.{ℕ}
 use mathlib.Core.List.{List}
 use lib.ListN.{replicate}
 use Rattle.colour.specs.Colour.{Cursor}
+use Rattle.tlc34058.specs.Facts as facts
 
 -- the control registers at addresses 04h to 07h
 pub record Registers : Type 0 where
@@ -30,7 +31,7 @@ abbrev pub fresh : State
 fresh =
     record {
       port = record {
-        colours = replicate 780 0;
+        colours = replicate facts.colours 0;
         cursor = record { address = 0; position = 0; heldRed = 0; heldGreen = 0 };
         registers = record { readMask = 0; blinkMask = 0; command = 0; test = 0 };
       };

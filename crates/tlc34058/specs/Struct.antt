@@ -2,13 +2,14 @@
 use Prim.Native.Nat.{ℕ}
 use mathlib.Core.Path.{_≡_}
 use mathlib.Core.List.{List}
-use Rattle.event.specs.Event.{Played}
+use Rattle.event.specs.Answer.{bytesOf}
+use Rattle.event.specs.Event.{Outcome}
 use Rattle.colour.specs.Struct.{cursorOf}
 use Rattle.tlc34058.specs.State.{Registers, State}
 use Rattle.tlc34058.specs.Port.{Access, next, reply}
 use Rattle.tlc34058.specs.declared.Control as control
 use Rattle.tlc34058.specs.declared.Tlc34058 as code
-use Rattle.tlc34058.specs.declared.Turn as turn
+use Rattle.tlc34058.specs.declared.Outcome as outcome
 
 abbrev pub registersOf : control.Control → Registers
 registersOf c = record { readMask = c .«read_mask»; blinkMask = c .«blink_mask»; command = c .command; test = c .test }
@@ -30,10 +31,12 @@ stateOf s = record {
   display = record { blink = s .blink };
 }
 
-abbrev pub playedOf : turn.Turn → Played State
-playedOf t = record { answer = t .answer; state = stateOf (t .state) }
+-- what an event called by itself answers and leaves
+pub record OutcomeIs (o : Outcome State) (r : outcome.Outcome) : Type 0 where
+  pub answer : r .answer ≡ bytesOf (o .answer)
+  pub state : stateOf (r .state) ≡ o .state
 
 -- what an access leaves and answers
 pub record Accessed (before after : State) (x : Access) (part : List ℕ) : Type 0 where
   pub state : after ≡ record { port = next (before .port) x; display = before .display }
-  pub answer : part ≡ reply (before .port) x
+  pub answer : part ≡ bytesOf (reply (before .port) x)

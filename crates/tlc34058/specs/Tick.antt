@@ -5,7 +5,9 @@ use mathlib.Core.List.{List, [], _∷_, _++_}
 use lib.Dec.{ltb, eqb}
 use lib.ListN.{getD}
 use lib.Bits.{bitAnd}
-use Rattle.event.specs.Event.{Raw, bit, refused, done}
+use Rattle.event.specs.Kinds as kinds
+use Rattle.event.specs.Answer.{Answer, refused, done, showed}
+use Rattle.event.specs.Event.{Raw, bit}
 use Rattle.tlc34058.specs.State.{Registers, Port, Display}
 
 -- CR7 0: four pixels A to D; CR7 1: five
@@ -54,20 +56,20 @@ shownPixels command levels = cond (bit 0 levels) (pixelCount command) 0
 unfoldable pub undefinedBits : List ℕ → Bool
 undefinedBits o = ltb 31 (getD o 5 0) || (ltb 31 (getD o 6 0) || ltb 3 (getD o 7 0))
 
--- all pixels of a tick use the state as it is then. Byte 1 is the pixel count, byte 2 the levels, and the codes of five pixels fill the answer.
-unfoldable pub tick : Port → Display → List ℕ → List ℕ
+-- all pixels of a tick use the state as it is then. It shows the pixel count, the levels, and the codes of five pixels, which fill the answer.
+unfoldable pub tick : Port → Display → List ℕ → Answer
 tick p d o =
     cond (undefinedBits o) (refused 4)
-    (0 ∷ pixelCount (p .registers .command) ∷ getD o 7 0
-    ∷ codesUpTo (codeAt (p .colours) (p .registers) (blinkOn (p .registers .command) (d .blink)) (shownPixels (p .registers .command) (getD o 7 0)) o) 5)
+    (showed (pixelCount (p .registers .command)) (getD o 7 0)
+    (codesUpTo (codeAt (p .colours) (p .registers) (blinkOn (p .registers .command) (d .blink)) (shownPixels (p .registers .command) (getD o 7 0)) o) 5))
 
 -- the blink count, 0 to 127, moves on at each vertical period, 127 to 0
 abbrev pub later : Display → Display
 later d = record { blink = (d .blink + 1) % 128 }
 
--- kind 2 is a tick, kind 3 a vertical period
-abbrev pub turn : Display → Raw → Display
-turn d e = cond (eqb (e .kind) 2) d (later d)
+-- a vertical period moves the display, a tick is answered
+abbrev pub displayAfter : Display → Raw → Display
+displayAfter d e = cond (eqb (e .kind) kinds.vertical) (later d) d
 
-abbrev pub show : Port → Display → Raw → List ℕ
-show p d e = cond (eqb (e .kind) 2) (tick p d (e .operand)) done
+abbrev pub show : Port → Display → Raw → Answer
+show p d e = cond (eqb (e .kind) kinds.tick) (tick p d (e .operand)) done

@@ -1,72 +1,97 @@
-// The state as its 789 places, and back; and a save.
+// The state as its places, and back; and a save.
 ghost use mathlib.Core.Path.{_≡_};
 ghost use lib.ListN.{length, take};
 ghost use Rattle.snapshot.specs.Snapshot.{Valid};
-ghost use Rattle.tlc34058.specs.Places.{largest as largestValues, placesOf, stateFrom, saved, decodedOrFresh};
+ghost use Rattle.tlc34058.specs.Facts as facts;
+ghost use Rattle.tlc34058.specs.Places.{placesOf, stateFrom, saved, decodedOrFresh};
 ghost use Rattle.tlc34058.specs.Struct.{joined};
+use crate::COLOURS;
 use crate::Control;
+use crate::LARGEST_COLOUR;
+use crate::NUMBER;
+use crate::PLACES;
 use colour::Cursor;
 use counters::Address;
 use counters::Position;
 
+// The numbers of the places behind the colours.
+const ADDRESS: usize = COLOURS;
+
+const POSITION: usize = COLOURS + 1;
+
+const HELD_RED: usize = COLOURS + 2;
+
+const HELD_GREEN: usize = COLOURS + 3;
+
+const READ_MASK: usize = COLOURS + 4;
+
+const BLINK_MASK: usize = COLOURS + 5;
+
+const COMMAND: usize = COLOURS + 6;
+
+const TEST: usize = COLOURS + 7;
+
+const BLINK: usize = COLOURS + 8;
+
 // The largest value of each place.
-pub fn largest() -> [u8; 789]
-    ensures { λ r. ⌜ r ≡ largestValues ⌝ }
+pub fn largest() -> [u8; PLACES]
+    ensures { λ r. ⌜ r ≡ facts.largest ⌝ }
 {
-    let mut t = [255u8; 789];
-    t[781] = 2;
-    t[788] = 127;
+    let mut t = [LARGEST_COLOUR; PLACES];
+    t[POSITION] = 2;
+    t[BLINK] = 127;
     t
 }
 
-pub fn places_of(colours: &[u8], c: Control) -> [u8; 789]
-    requires { ⌜ length (now colours) ≡ 780 ⌝ }
+pub fn places_of(colours: &[u8], c: Control) -> [u8; PLACES]
+    requires { ⌜ length (now colours) ≡ facts.colours ⌝ }
     ensures { λ r. ⌜ r ≡ placesOf (joined (now (colours .entry)) c) ⌝ }
 {
-    let mut places = [0u8; 789];
-    snapshot::copy(colours, &mut places);
+    let mut places = [0u8; PLACES];
+    bytes::copy(colours, &mut places);
     let cursor = c.cursor;
     let address = cursor.address;
     let position = cursor.position;
-    places[780] = address.0;
-    places[781] = position.0;
-    places[782] = cursor.held_red;
-    places[783] = cursor.held_green;
-    places[784] = c.read_mask;
-    places[785] = c.blink_mask;
-    places[786] = c.command;
-    places[787] = c.test;
-    places[788] = c.blink;
+    places[ADDRESS] = address.0;
+    places[POSITION] = position.0;
+    places[HELD_RED] = cursor.held_red;
+    places[HELD_GREEN] = cursor.held_green;
+    places[READ_MASK] = c.read_mask;
+    places[BLINK_MASK] = c.blink_mask;
+    places[COMMAND] = c.command;
+    places[TEST] = c.test;
+    places[BLINK] = c.blink;
     places
 }
 
 // The places behind the colours, as a struct.
-pub fn control_from(places: [u8; 789]) -> Control
-    ensures { λ r. ⌜ joined (take 780 places) r ≡ stateFrom places ⌝ }
+pub fn control_from(places: [u8; PLACES]) -> Control
+    ensures { λ r. ⌜ joined (take facts.colours places) r ≡ stateFrom places ⌝ }
 {
     Control {
         cursor: Cursor {
-            address: Address(places[780]),
-            position: Position(places[781]),
-            held_red: places[782],
-            held_green: places[783],
+            address: Address(places[ADDRESS]),
+            position: Position(places[POSITION]),
+            held_red: places[HELD_RED],
+            held_green: places[HELD_GREEN],
         },
-        read_mask: places[784],
-        blink_mask: places[785],
-        command: places[786],
-        test: places[787],
-        blink: places[788],
+        read_mask: places[READ_MASK],
+        blink_mask: places[BLINK_MASK],
+        command: places[COMMAND],
+        test: places[TEST],
+        blink: places[BLINK],
     }
 }
 
 // A save event does both steps for real: the state becomes a snapshot, and is restored from its bytes.
 pub fn save_and_restore(colours: &mut [u8], c: Control) -> Control
-    requires { ⌜ Valid largestValues (placesOf (joined (now colours) c)) ⌝ }
+    requires { ⌜ Valid facts.largest (placesOf (joined (now colours) c)) ⌝ }
     ensures { λ r. ⌜ joined (now (colours .exit)) r ≡ decodedOrFresh (saved (joined (now (colours .entry)) c)) ⌝ }
 {
     let mut places = places_of(colours, c);
     let t = largest();
-    snapshot::save_places(1, &t, &mut places);
-    snapshot::fill(&places, colours);
+    let mut snapshot = [0u8; 3 + 3 * PLACES];
+    snapshot::save_places(NUMBER, &t, &mut places, &mut snapshot);
+    bytes::fill(&places, colours);
     control_from(places)
 }

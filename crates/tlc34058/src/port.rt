@@ -3,8 +3,9 @@ ghost use mathlib.Core.Path.{_≡_};
 ghost use mathlib.Core.List.{List};
 ghost use Prim.Native.Nat.{ℕ, _≤_};
 ghost use lib.ListN.{length};
-ghost use Rattle.event.specs.Event.{gave};
+ghost use Rattle.event.specs.Answer.{gave, answerLong};
 ghost use Rattle.colour.specs.Struct.{cursorOf};
+ghost use Rattle.tlc34058.specs.Facts as facts;
 ghost use Rattle.tlc34058.specs.Port.{accessRefusal, writing, reading, next, reply, register as registerAt, withRegister};
 ghost use Rattle.tlc34058.specs.Struct.{registersOf, joined, Accessed};
 use crate::Control;
@@ -87,7 +88,7 @@ fn set_register(c: Control, address: u8, byte: u8) -> Control
 
 // A write's answer has its refusal and nothing else.
 pub fn write(colours: &mut [u8], c: Control, selector: u8, byte: u8, part: &mut [u8]) -> Control
-    requires { ⌜ (length (now colours) ≡ 780) × (c .cursor .position .0 ≤ 2) × (length (now part) ≡ 18) ⌝ }
+    requires { ⌜ (length (now colours) ≡ facts.colours) × (c .cursor .position .0 ≤ 2) × (length (now part) ≡ answerLong) ⌝ }
     ensures { λ r. ⌜ Accessed (joined (now (colours .entry)) c) (joined (now (colours .exit)) r) (writing (c .cursor .address .0) selector byte) (now (part .exit)) ⌝ }
 {
     let cursor = c.cursor;
@@ -102,17 +103,17 @@ pub fn write(colours: &mut [u8], c: Control, selector: u8, byte: u8, part: &mut 
         return with_cursor(c, cursor.point(Address(byte)));
     }
     if selector == 1 {
-        return with_cursor(c, cursor.write(colours, colour::wide(at), byte));
+        return with_cursor(c, cursor.write(colours, bytes::wide(at), byte));
     }
     if selector == 3 {
-        return with_cursor(c, cursor.write(colours, 256 + colour::wide(at), byte));
+        return with_cursor(c, cursor.write(colours, 256 + bytes::wide(at), byte));
     }
     set_register(c, at, byte)
 }
 
 // The byte that a read gives where it isn't refused.
 fn value(colours: &[u8], c: Control, selector: u8) -> u8
-    requires { ⌜ (length (now colours) ≡ 780) × (c .cursor .position .0 ≤ 2) × (accessRefusal selector (c .cursor .address .0) ≡ 0) ⌝ }
+    requires { ⌜ (length (now colours) ≡ facts.colours) × (c .cursor .position .0 ≤ 2) × (accessRefusal selector (c .cursor .address .0) ≡ 0) ⌝ }
     ensures { λ r. ⌜ gave r ≡ reply (joined (now (colours .entry)) c .port) (reading (c .cursor .address .0) selector) ⌝ }
 {
     let cursor = c.cursor;
@@ -122,10 +123,10 @@ fn value(colours: &[u8], c: Control, selector: u8) -> u8
         return at;
     }
     if selector == 1 {
-        return cursor.read(colours, colour::wide(at));
+        return cursor.read(colours, bytes::wide(at));
     }
     if selector == 3 {
-        return cursor.read(colours, 256 + colour::wide(at));
+        return cursor.read(colours, 256 + bytes::wide(at));
     }
     register(c, at)
 }
@@ -150,7 +151,7 @@ fn after_read(c: Control, selector: u8) -> Control
 }
 
 pub fn read(colours: &[u8], c: Control, selector: u8, part: &mut [u8]) -> Control
-    requires { ⌜ (length (now colours) ≡ 780) × (c .cursor .position .0 ≤ 2) × (length (now part) ≡ 18) ⌝ }
+    requires { ⌜ (length (now colours) ≡ facts.colours) × (c .cursor .position .0 ≤ 2) × (length (now part) ≡ answerLong) ⌝ }
     ensures { λ r. ⌜ Accessed (joined (now (colours .entry)) c) (joined (now (colours .entry)) r) (reading (c .cursor .address .0) selector) (now (part .exit)) ⌝ }
 {
     let cursor = c.cursor;

@@ -3,6 +3,8 @@ ghost use mathlib.Core.Path.{_≡_};
 ghost use mathlib.Core.List.{_++_};
 ghost use Prim.Native.Nat.{_+_, _*_, _≤_, _<_};
 ghost use lib.ListN.{length, take};
+ghost use Rattle.event.specs.Answer.{answerLong, bytesOf};
+ghost use Rattle.tlc34058.specs.Facts as facts;
 ghost use Rattle.tlc34058.specs.Tick.{pixelCount, blinkOn, maskedPixel, overlayBit, entryOf, codeOf, codeAt, codesUpTo, shownPixels, undefinedBits, tick};
 ghost use Rattle.tlc34058.specs.Struct.{registersOf, joined};
 ghost use Rattle.tlc34058.specs.Codes.{CodesAre};
@@ -35,11 +37,11 @@ fn blink_on(command: u8, n: u8) -> bool
 fn masked_pixel(c: Control, on: bool, pixel: u8) -> u8
     ensures { λ r. ⌜ r ≡ maskedPixel (registersOf c) on pixel ⌝ }
 {
-    let seen = colour::masked(pixel, c.read_mask);
+    let seen = bytes::masked(pixel, c.read_mask);
     if on {
         return seen;
     }
-    colour::masked(seen, 255 - c.blink_mask)
+    bytes::masked(seen, 255 - c.blink_mask)
 }
 
 // An overlay bit that its enable and its blink bit leave.
@@ -71,11 +73,11 @@ fn entry_of(c: Control, on: bool, pixel: u8, ol0: bool, ol1: bool) -> usize
     let k = 2 * b1 + b0;
     if k == 0 {
         if command / 64 % 2 == 1 {
-            return colour::wide(masked_pixel(c, on, pixel));
+            return bytes::wide(masked_pixel(c, on, pixel));
         }
         return 256;
     }
-    256 + colour::wide(k)
+    256 + bytes::wide(k)
 }
 
 // The codes of a pixel, black where it isn't shown.
@@ -88,7 +90,7 @@ fn codes_of(
     ol0: bool,
     ol1: bool,
 ) -> Codes
-    requires { ⌜ length (now colours) ≡ 780 ⌝ }
+    requires { ⌜ length (now colours) ≡ facts.colours ⌝ }
     ensures { λ r. ⌜ CodesAre (codeOf (now (colours .entry)) (registersOf c) on shown pixel ol0 ol1) r ⌝ }
 {
     if shown {
@@ -108,7 +110,7 @@ fn codes_of(
 
 // Writes the codes of five pixels behind the first three bytes, n of them shown. The overlay bytes are halved at each turn.
 fn put_pixels(part: &mut [u8], colours: &[u8], c: Control, operand: [u8; 8], on: bool, n: usize)
-    requires { ⌜ (length (now part) ≡ 18) × (length (now colours) ≡ 780) ⌝ }
+    requires { ⌜ (length (now part) ≡ answerLong) × (length (now colours) ≡ facts.colours) ⌝ }
     ensures { λ _. ⌜ now (part .exit) ≡ take 3 (now (part .entry)) ++ codesUpTo (codeAt (now (colours .entry)) (registersOf c) on n operand) 5 ⌝ }
 {
     let mut ol0 = operand[5];
@@ -160,15 +162,15 @@ fn shown_pixels(command: u8, levels: u8) -> usize
     ensures { λ r. ⌜ r ≡ shownPixels command levels ⌝ }
 {
     if levels % 2 == 1 {
-        return colour::wide(pixel_count(command));
+        return bytes::wide(pixel_count(command));
     }
     0
 }
 
 // A tick's answer over an event's part of the answer buffer.
 pub fn put_tick(part: &mut [u8], colours: &[u8], c: Control, operand: [u8; 8])
-    requires { ⌜ (length (now part) ≡ 18) × (length (now colours) ≡ 780) ⌝ }
-    ensures { λ _. ⌜ now (part .exit) ≡ tick (joined (now (colours .entry)) c .port) (joined (now (colours .entry)) c .display) operand ⌝ }
+    requires { ⌜ (length (now part) ≡ answerLong) × (length (now colours) ≡ facts.colours) ⌝ }
+    ensures { λ _. ⌜ now (part .exit) ≡ bytesOf (tick (joined (now (colours .entry)) c .port) (joined (now (colours .entry)) c .display) operand) ⌝ }
 {
     if undefined_bits(operand) {
         event::put_answer(part, 4, 0);

@@ -11,9 +11,10 @@ from-places-requires-2 c κs = search needs
 
 returns : tie.Need-returns
 returns c =
-    let one = c .before .from-places in
-    let two = c .from-places2 in
-    λ i. record { number = c .before .before .args .number; one = one .ensures i; two = two .ensures i }
+    let args = c .before .before .args in
+    let from-places = c .before .from-places in
+    let from-places2 = c .from-places2 in
+    λ i. record { number = args .number; tlc34058 = from-places .ensures i; hd153129 = from-places2 .ensures i }
 
 pub chip-from-spec : {M : Type 1} → statement M
 chip-from-spec = tie.close (tie.spec from-places-requires from-places-requires-2 returns)

@@ -2,7 +2,7 @@
 use Rattle.snapshot.proofs.Pairs.{part-rest}
 use native.Mathlib.Omega.{arith}
 use Prim.Native.Nat.{_+_, _-_, _*_}
-use Rattle.snapshot.specs.Snapshot.{refusalOf, numbersIn, valuesIn}
+use Rattle.snapshot.specs.Snapshot.{refusalFor, numbersIn, valuesIn}
 use mathlib.Core.Path.{_≡_, _∙_, sym}
 use borrow.Author.Tests.{le-ltb, lt-ltb, eq-eqb, ne-eqb}
 use borrow.Author.Needs.{needs}
@@ -10,7 +10,7 @@ use Rattle.snapshot.proofs.check.Statement.{statement}
 use Rattle.snapshot.proofs.check.Tie as tie
 
 returns : tie.Need-returns
-unfolding refusalOf
+unfolding refusalFor
 returns c =
     simp (lt-ltb _ _ (c .if1 .taken))
 
@@ -18,7 +18,7 @@ shared-slice-read-if2 : tie.Need-shared-slice-read-if2
 shared-slice-read-if2 c = search needs
 
 returns-2 : tie.Need-returns-2
-unfolding refusalOf
+unfolding refusalFor
 returns-2 c =
     let if1 = c .before .before .if1 in
     simp (le-ltb _ _ (if1 .left), ne-eqb _ _ (c .if2 .taken))
@@ -27,7 +27,7 @@ word-requires : tie.Need-word-requires
 word-requires c κs = search needs
 
 returns-3 : tie.Need-returns-3
-unfolding refusalOf
+unfolding refusalFor
 returns-3 c =
     let if1 = c .before .before .before .before .if1 in
     let if2 = c .before .before .if2 in
@@ -40,7 +40,7 @@ add-if4 : tie.Need-add-if4
 add-if4 c = search needs
 
 returns-4 : tie.Need-returns-4
-unfolding refusalOf
+unfolding refusalFor
 returns-4 c =
     let if1 = c .before .before .before .before .before .if1 in
     let if2 = c .before .before .before .if2 in
@@ -75,7 +75,7 @@ check-pairs-requires : tie.Need-check-pairs-requires
 check-pairs-requires c κs = search needs
 
 returns-5 : tie.Need-returns-5
-unfolding refusalOf numbersIn valuesIn
+unfolding refusalFor numbersIn valuesIn
 returns-5 c =
     let word = c .before .before .before .before .before .word in
     let if1 = c .before .before .before .before .before .before .before .before .if1 in

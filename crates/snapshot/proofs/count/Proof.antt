@@ -20,11 +20,11 @@ abbrev μ-loop : tie.MeasureT-loop
 loop-holds : tie.Need-loop-holds Inv-loop μ-loop
 loop-holds c = search needs
 
-shared-slice-read-some : tie.Need-shared-slice-read-some Inv-loop μ-loop
-shared-slice-read-some c = omega arith
+shared-slice-read-one-unless-zero : tie.Need-shared-slice-read-one-unless-zero Inv-loop μ-loop
+shared-slice-read-one-unless-zero c = omega arith
 
-some-requires : tie.Need-some-requires Inv-loop μ-loop
-some-requires c κs = search needs
+one-unless-zero-requires : tie.Need-one-unless-zero-requires Inv-loop μ-loop
+one-unless-zero-requires c κs = search needs
 
 add-n : tie.Need-add-n Inv-loop μ-loop
 add-n c = omega arith
@@ -39,11 +39,11 @@ loop-again : tie.Need-loop-again Inv-loop μ-loop
 loop-again c =
     let loop = c .before .before .before .loop in
     let args = c .before .before .before .before .before .args in
-    let some = c .some in
+    let one-unless-zero = c .one-unless-zero in
     let loop-test = c .before .before .loop-test in
     let l = now (args .places) in
     let e = counted-more l (loop .i) (loop-test .taken) in
-    (omega (arith, loop-test .taken), omega (arith, some .ensures .1), omega (arith, some .ensures .0, loop .inv .2))
+    (omega (arith, loop-test .taken), omega (arith, one-unless-zero .ensures .1), omega (arith, one-unless-zero .ensures .0, loop .inv .2))
 
 cast-result : tie.Need-cast-result Inv-loop μ-loop
 cast-result c = omega arith
@@ -64,8 +64,8 @@ count-spec =
     Inv-loop
     μ-loop
     loop-holds
-    shared-slice-read-some
-    some-requires
+    shared-slice-read-one-unless-zero
+    one-unless-zero-requires
     add-n
     add-i
     loop-less

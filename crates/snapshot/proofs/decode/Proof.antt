@@ -1,15 +1,15 @@
 -- `decode` meets its contract: an accepted snapshot has the parts that are read.
-use Prim.Native.Nat.{_+_, _-_, _*_}
+use Prim.Native.Nat.{ℕ, _+_, _-_, _*_}
 use native.Mathlib.Omega.{arith}
 use mathlib.Core.Path.{_≡_, _∙_, sym}
 use mathlib.Core.Bool.{true, false}
 use borrow.Author.Needs.{needs}
 use borrow.Author.Tests.{eq-eqb, ne-eqb}
 use lib.Dec.{eqb}
-use lib.ListN.{length-take, length-drop}
+use lib.ListN.{length, replicate, length-take, length-drop, length-replicate}
 use denote.Ref.{now}
-use Rattle.snapshot.specs.Snapshot.{refusalOf, restored, numbersIn, valuesIn}
-use Rattle.snapshot.proofs.Pairs.{part-rest, Accepted, accepted}
+use Rattle.snapshot.specs.Snapshot.{refusalFor, restored, numbersIn, valuesIn}
+use Rattle.snapshot.proofs.Pairs.{part-rest, pairs-below, Accepted, accepted}
 use Rattle.snapshot.proofs.decode.Statement.{statement}
 use Rattle.snapshot.proofs.decode.Tie as tie
 
@@ -20,7 +20,7 @@ returns : tie.Need-returns
 returns c =
     let args = c .before .before .before .before .before .args in
     let check = c .before .check in
-    let refused : eqb (refusalOf (args .chip) (now (args .largest)) (now (args .s))) 0 ≡ false = ne-eqb _ _ (λ e. (c .if1 .taken) (check .ensures ∙ e)) in
+    let refused : eqb (refusalFor (args .chip) (now (args .largest)) (now (args .s))) 0 ≡ false = ne-eqb _ _ (λ e. (c .if1 .taken) (check .ensures ∙ e)) in
     record { refusal = check .ensures; left = simp refused }
 
 -- past the test the snapshot is accepted
@@ -68,9 +68,20 @@ part-put-places-end-2 : tie.Need-part-put-places-end-2
 part-put-places-end-2 c = search needs
 
 put-places-requires : tie.Need-put-places-requires
+unfolding numbersIn valuesIn
 put-places-requires c κs =
+    let clear = c .before .before .before .before .before .clear in
     let at = c .before .before .before .before .before .before .before in
-    simp (length-take, length-drop) (omega (arith, known (at .before), at .word .ensures .0))
+    let args = at .before .before .before .before .before .before .args in
+    let pre = at .before .before .before .before .before .before .pre in
+    let n = at .word .result in
+    let size : 3 + 2 * n - 3 ≡ 2 * n = omega arith in
+    let none : ℕ = 0 in
+    let long : length (replicate (length (now (args .places))) none) ≡ length (now (args .largest)) = length-replicate (length (now (args .places))) none ∙ pre in
+    let below = pairs-below (now (args .largest)) 0 (numbersIn (now (args .s))) (valuesIn (now (args .s))) (known (at .before) .pairs) in (
+      simp (length-take, length-drop) (omega (arith, known (at .before), at .word .ensures .0)),
+      simp (clear .ensures, long, size, part-rest) (simp (sym (at .word .ensures .0)) at below),
+    )
 
 same-length : tie.Need-same-length
 same-length c = search needs
@@ -85,7 +96,7 @@ returns-2 c =
     let if1 = at .before .if1 in
     let clear = c .before .before .before .before .before .before .before .before .clear in
     let n = at .word .result in
-    let taken : eqb (refusalOf (args .chip) (now (args .largest)) (now (args .s))) 0 ≡ true = eq-eqb _ _ (sym (check .ensures) ∙ if1 .left) in
+    let taken : eqb (refusalFor (args .chip) (now (args .largest)) (now (args .s))) 0 ≡ true = eq-eqb _ _ (sym (check .ensures) ∙ if1 .left) in
     let size : 3 + 2 * n - 3 ≡ 2 * n = omega arith in
     record {
       refusal = sym (if1 .left) ∙ check .ensures;

@@ -33,8 +33,8 @@ loop-holds c =
     let pre = c .pre in
     (omega arith, omega (arith, pre .1), omega arith, omega arith, refl, refl, omega (arith, pre .1, values-short (now (args .places))))
 
-shared-slice-read-if1 : tie.Need-shared-slice-read-if1 Inv-loop μ-loop
-shared-slice-read-if1 c = omega arith
+shared-slice-read-byte : tie.Need-shared-slice-read-byte Inv-loop μ-loop
+shared-slice-read-byte c = omega arith
 
 add-i : tie.Need-add-i Inv-loop μ-loop
 add-i c = omega arith
@@ -74,9 +74,6 @@ add-out c = omega arith
 slice-write-out-2 : tie.Need-slice-write-out-2 Inv-loop μ-loop
 slice-write-out-2 c = simp length-set (omega arith)
 
-shared-slice-read-out : tie.Need-shared-slice-read-out Inv-loop μ-loop
-shared-slice-read-out c = omega arith
-
 slice-write-out-3 : tie.Need-slice-write-out-3 Inv-loop μ-loop
 slice-write-out-3 c = simp length-set (omega arith)
 
@@ -94,10 +91,10 @@ loop-less-2 c = omega arith
 
 loop-again-2 : tie.Need-loop-again-2 Inv-loop μ-loop
 loop-again-2 c =
-    let loop = c .before .before .before .before .loop in
-    let args = c .before .before .before .before .before .args in
-    let if1 = c .before .if1 in
-    let loop-test = c .before .before .before .loop-test in
+    let loop = c .before .before .before .loop in
+    let args = c .before .before .before .before .args in
+    let if1 = c .if1 in
+    let loop-test = c .before .before .loop-test in
     let l = now (args .places) in
     let e = ap length (values-more l (loop .i) (loop-test .taken) (if1 .left)) in (
       omega (arith, loop-test .taken),
@@ -129,7 +126,7 @@ put-pairs-spec =
     mul-v
     add-v
     loop-holds
-    shared-slice-read-if1
+    shared-slice-read-byte
     add-i
     loop-less
     loop-again
@@ -138,7 +135,6 @@ put-pairs-spec =
     cast-out-2
     add-out
     slice-write-out-2
-    shared-slice-read-out
     slice-write-out-3
     add-k
     add-v-2

@@ -74,7 +74,7 @@ returns-3 c =
     let at = args .self .position .0 in
     let not0 = if1 .left in
     let not1 = if2 .left in
-    let two : at ≡ 2 = omega (arith, pre .1, not0, not1) in
+    let two : at ≡ 2 = omega (arith, pre .0, not0, not1) in
     (c .next3 .ensures ∙ simp (ne-eqb _ _ not0, ne-eqb _ _ not1), simp (eq-eqb _ _ two))
 
 pub write-spec : {M : Type 1} → statement M

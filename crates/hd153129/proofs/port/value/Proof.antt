@@ -3,7 +3,7 @@ use Rattle.hd153129.proofs.Selected.{read-colour, read-mask, read-addre
 use Rattle.hd153129.specs.Struct.{joined}
 use Rattle.hd153129.specs.Port.{reply}
 use Rattle.colour.specs.Colour.{component}
-use Rattle.event.specs.Event.{gave}
+use Rattle.event.specs.Answer.{gave}
 use denote.Ref.{now}
 use mathlib.Core.Path.{sym, _∙_, ap}
 use borrow.Author.Needs.{needs}

@@ -3,7 +3,8 @@ use Rattle.hd153129.proofs.Selected.{write-refused, write-address, writ
 use Rattle.hd153129.specs.Struct.{joined}
 use Rattle.hd153129.specs.Port.{next}
 use Rattle.colour.specs.Colour.{stored, pointed}
-use Rattle.event.specs.Event.{answerOf}
+use Rattle.event.specs.Answer.{answerOf}
+use Rattle.event.proofs.Laws.{refused-bytes, done-bytes}
 use denote.Ref.{now}
 use mathlib.Core.Path.{refl, sym, _∙_, ap}
 use Prim.Native.Nat.{_%_}
@@ -25,7 +26,7 @@ returns c =
     let access-refusal = c .before .before .before .before .before .access-refusal in
     let if1 = c .if1 in
     let put-answer = c .before .before .before .put-answer in
-    accessed (write-refused _ _ _ (λ e. if1 .taken (access-refusal .ensures ∙ e))) refl (put-answer .ensures ∙ ap (λ k. answerOf k 0) (access-refusal .ensures))
+    accessed (write-refused _ _ _ (λ e. if1 .taken (access-refusal .ensures ∙ e))) refl (put-answer .ensures ∙ ap (λ k. answerOf k 0) (access-refusal .ensures) ∙ refused-bytes _)
 
 point-requires : tie.Need-point-requires
 point-requires c κs = search needs
@@ -43,7 +44,7 @@ returns-2 c =
     let point = c .point in
     accessed (write-address _ _ (args .byte) (sym (access-refusal .ensures) ∙ if1 .left) (if2 .taken))
     (joined-by (now (args .colours)) (now (args .colours)) _ _ _ _ refl (point .ensures .0) (point .ensures .1) (point .ensures .2))
-    (put-answer .ensures ∙ ap (λ k. answerOf k 0) (if1 .left))
+    (put-answer .ensures ∙ ap (λ k. answerOf k 0) (if1 .left) ∙ done-bytes)
 
 next-requires : tie.Need-next-requires
 next-requires c κs = search needs
@@ -66,7 +67,7 @@ returns-3 c =
     let point2 = c .point2 in
     accessed (write-read-address _ _ (args .byte) (sym (access-refusal .ensures) ∙ if1 .left) (if2 .left) (if3 .taken))
     (joined-by (now (args .colours)) (now (args .colours)) _ _ _ _ refl (point2 .ensures .0 ∙ ap (pointed (joined (now (args .colours)) (args .c) .cursor)) (onward .ensures)) (point2 .ensures .1) (point2 .ensures .2))
-    (put-answer .ensures ∙ ap (λ k. answerOf k 0) (if1 .left))
+    (put-answer .ensures ∙ ap (λ k. answerOf k 0) (if1 .left) ∙ done-bytes)
 
 wide-requires : tie.Need-wide-requires
 wide-requires c κs = search needs
@@ -99,7 +100,7 @@ returns-4 c =
     let stores = write .ensures .1 ∙ ap (λ e. stored (now (args .colours)) (s .cursor) e (args .byte % 64)) (wide .ensures .0) in
     accessed (write-colour _ _ (args .byte) (sym (access-refusal .ensures) ∙ if1 .left) (if2 .left) (if3 .left) (if4 .taken))
     (joined-by _ _ _ _ _ _ stores (with-cursor .ensures .0 ∙ write .ensures .0) (with-cursor .ensures .1) (with-cursor .ensures .2))
-    (put-answer .ensures ∙ ap (λ k. answerOf k 0) (if1 .left))
+    (put-answer .ensures ∙ ap (λ k. answerOf k 0) (if1 .left) ∙ done-bytes)
 
 same-length-6 : tie.Need-same-length-6
 same-length-6 c = search needs
@@ -113,7 +114,7 @@ returns-5 c =
     let if3 = c .before .if3 in
     let if4 = c .if4 in
     let put-answer = c .before .before .before .before .before .before .put-answer in
-    accessed (write-mask _ _ (args .byte) (sym (access-refusal .ensures) ∙ if1 .left) (if2 .left) (if3 .left) (if4 .left)) refl (put-answer .ensures ∙ ap (λ k. answerOf k 0) (if1 .left))
+    accessed (write-mask _ _ (args .byte) (sym (access-refusal .ensures) ∙ if1 .left) (if2 .left) (if3 .left) (if4 .left)) refl (put-answer .ensures ∙ ap (λ k. answerOf k 0) (if1 .left) ∙ done-bytes)
 
 pub write-spec : {M : Type 1} → statement M
 write-spec =

@@ -1,5 +1,5 @@
 -- `largest` meets its contract: both lists compute to the same.
-use Rattle.tlc34058.specs.Places.{largest}
+use Rattle.tlc34058.specs.Facts.{largest}
 use mathlib.Core.Path.{refl}
 use borrow.Author.Needs.{needs}
 use Rattle.tlc34058.proofs.places.largest.Statement.{statement}

@@ -1,5 +1,6 @@
 -- `read` meets its contract.
-use Rattle.event.specs.Event.{answerOf}
+use Rattle.event.specs.Answer.{answerOf, bytesOf}
+use Rattle.event.proofs.Laws.{refused-bytes, gave-bytes}
 use Rattle.tlc34058.proofs.Selected.{read-refused, accessed}
 use Rattle.tlc34058.specs.Struct.{joined}
 use denote.Ref.{now}
@@ -25,7 +26,7 @@ returns c =
     let put-answer = c .before .before .put-answer in
     let s = joined (now (args .colours)) (args .c) in
     let none = read-refused _ _ (λ e. if1 .taken (access-refusal .ensures ∙ e)) in
-    accessed none refl (put-answer .ensures ∙ ap (λ k. answerOf k 0) (access-refusal .ensures))
+    accessed none refl (put-answer .ensures ∙ ap (λ k. answerOf k 0) (access-refusal .ensures) ∙ refused-bytes _)
 
 value-requires : tie.Need-value-requires
 value-requires c κs = search needs
@@ -45,7 +46,7 @@ returns-2 c =
     let put-answer2 = c .before .before .before .put-answer2 in
     let value = c .before .before .before .before .value in
     let after-read = c .after-read in
-    record { state = after-read .ensures (now (args .colours)); answer = put-answer2 .ensures ∙ value .ensures }
+    record { state = after-read .ensures (now (args .colours)); answer = put-answer2 .ensures ∙ gave-bytes _ ∙ ap bytesOf (value .ensures) }
 
 pub read-spec : {M : Type 1} → statement M
 read-spec =

@@ -1,6 +1,6 @@
 -- `value` meets its contract.
 use Rattle.colour.specs.Colour.{component}
-use Rattle.event.specs.Event.{gave}
+use Rattle.event.specs.Answer.{gave}
 use Rattle.tlc34058.proofs.Selected.{read-address, read-palette, read-overlay, read-register, overlay-low}
 use Rattle.tlc34058.specs.Struct.{joined}
 use Rattle.tlc34058.specs.Port.{reply, register}
@@ -48,7 +48,7 @@ read-requires-2 c κs =
     let pre = c .before .before .before .before .before .before .before .pre in
     let if3 = c .before .if3 in
     let wide2 = c .wide2 in
-    (omega (arith, overlay-low _ _ (pre .2) (if3 .taken), wide2 .ensures .0), pre .1, omega (arith, overlay-low _ _ (pre .2) (if3 .taken), wide2 .ensures .0, pre .0))
+    (pre .1, omega (arith, overlay-low _ _ (pre .2) (if3 .taken), wide2 .ensures .0, pre .0))
 
 returns-3 : tie.Need-returns-3
 returns-3 c =

@@ -1,6 +1,7 @@
 -- `write` meets its contract.
 use Rattle.colour.specs.Colour.{stored}
-use Rattle.event.specs.Event.{answerOf}
+use Rattle.event.specs.Answer.{answerOf}
+use Rattle.event.proofs.Laws.{refused-bytes, done-bytes}
 use Rattle.tlc34058.proofs.Selected.{write-refused, write-address, write-palette, write-overlay, write-register, overlay-low, joined-by, accessed}
 use Rattle.tlc34058.specs.Struct.{joined}
 use denote.Ref.{now}
@@ -28,7 +29,7 @@ returns c =
     let put-answer = c .before .before .before .put-answer in
     let s = joined (now (args .colours)) (args .c) in
     let none = write-refused _ _ _ (λ e. if1 .taken (access-refusal .ensures ∙ e)) in
-    accessed none refl (put-answer .ensures ∙ ap (λ k. answerOf k 0) (access-refusal .ensures))
+    accessed none refl (put-answer .ensures ∙ ap (λ k. answerOf k 0) (access-refusal .ensures) ∙ refused-bytes _)
 
 point-requires : tie.Need-point-requires
 point-requires c κs = search needs
@@ -50,7 +51,7 @@ returns-2 c =
     let point = c .before .point in
     let s = joined (now (args .colours)) (args .c) in
     let asked = write-address _ _ (args .byte) (sym (access-refusal .ensures) ∙ if1 .left) (if2 .taken) in
-    accessed asked (joined-by (now (args .colours)) (now (args .colours)) _ (args .c) _ _ refl (with-cursor .ensures .0 ∙ point .ensures) (with-cursor .ensures .1) (with-cursor .ensures .2)) (put-answer .ensures ∙ ap (λ k. answerOf k 0) (if1 .left))
+    accessed asked (joined-by (now (args .colours)) (now (args .colours)) _ (args .c) _ _ refl (with-cursor .ensures .0 ∙ point .ensures) (with-cursor .ensures .1) (with-cursor .ensures .2)) (put-answer .ensures ∙ ap (λ k. answerOf k 0) (if1 .left) ∙ done-bytes)
 
 wide-requires : tie.Need-wide-requires
 wide-requires c κs = search needs
@@ -81,7 +82,7 @@ returns-3 c =
     let s = joined (now (args .colours)) (args .c) in
     let asked = write-palette _ _ (args .byte) (sym (access-refusal .ensures) ∙ if1 .left) (if2 .left) (if3 .taken) in
     let stores = write .ensures .1 ∙ ap (λ e. stored (now (args .colours)) (s .port .cursor) e (args .byte)) (wide .ensures .0) in
-    accessed asked (joined-by _ _ _ (args .c) _ _ stores (with-cursor2 .ensures .0 ∙ write .ensures .0) (with-cursor2 .ensures .1) (with-cursor2 .ensures .2)) (put-answer .ensures ∙ ap (λ k. answerOf k 0) (if1 .left))
+    accessed asked (joined-by _ _ _ (args .c) _ _ stores (with-cursor2 .ensures .0 ∙ write .ensures .0) (with-cursor2 .ensures .1) (with-cursor2 .ensures .2)) (put-answer .ensures ∙ ap (λ k. answerOf k 0) (if1 .left) ∙ done-bytes)
 
 wide-requires-2 : tie.Need-wide-requires-2
 wide-requires-2 c κs = search needs
@@ -98,7 +99,7 @@ write-requires-2 c κs =
     let if4 = c .before .before .if4 in
     let wide2 = c .wide2 in
     let low = overlay-low _ _ (sym (access-refusal .ensures) ∙ if1 .left) (if4 .taken) in
-    (omega (arith, low, wide2 .ensures .0), pre .1, omega (arith, low, wide2 .ensures .0, pre .0))
+    (pre .1, omega (arith, low, wide2 .ensures .0, pre .0))
 
 with-cursor-requires-3 : tie.Need-with-cursor-requires-3
 with-cursor-requires-3 c κs = search needs
@@ -124,7 +125,7 @@ returns-4 c =
     let s = joined (now (args .colours)) (args .c) in
     let asked = write-overlay _ _ (args .byte) (sym (access-refusal .ensures) ∙ if1 .left) (if2 .left) (if3 .left) (if4 .taken) in
     let stores = write2 .ensures .1 ∙ ap (λ e. stored (now (args .colours)) (s .port .cursor) (256 + e) (args .byte)) (wide2 .ensures .0) in
-    accessed asked (joined-by _ _ _ (args .c) _ _ stores (with-cursor3 .ensures .0 ∙ write2 .ensures .0) (with-cursor3 .ensures .1) (with-cursor3 .ensures .2)) (put-answer .ensures ∙ ap (λ k. answerOf k 0) (if1 .left))
+    accessed asked (joined-by _ _ _ (args .c) _ _ stores (with-cursor3 .ensures .0 ∙ write2 .ensures .0) (with-cursor3 .ensures .1) (with-cursor3 .ensures .2)) (put-answer .ensures ∙ ap (λ k. answerOf k 0) (if1 .left) ∙ done-bytes)
 
 set-register-requires : tie.Need-set-register-requires
 set-register-requires c κs = search needs
@@ -144,7 +145,7 @@ returns-5 c =
     let set-register = c .set-register in
     let s = joined (now (args .colours)) (args .c) in
     let asked = write-register _ _ (args .byte) (sym (access-refusal .ensures) ∙ if1 .left) (if2 .left) (if3 .left) (if4 .left) in
-    accessed asked (joined-by (now (args .colours)) (now (args .colours)) _ (args .c) _ _ refl (set-register .ensures .0) (set-register .ensures .1) (set-register .ensures .2)) (put-answer .ensures ∙ ap (λ k. answerOf k 0) (if1 .left))
+    accessed asked (joined-by (now (args .colours)) (now (args .colours)) _ (args .c) _ _ refl (set-register .ensures .0) (set-register .ensures .1) (set-register .ensures .2)) (put-answer .ensures ∙ ap (λ k. answerOf k 0) (if1 .left) ∙ done-bytes)
 
 pub write-spec : {M : Type 1} → statement M
 write-spec =

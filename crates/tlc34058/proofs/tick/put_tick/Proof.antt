@@ -1,4 +1,5 @@
 -- `put_tick` meets its contract.
+use Rattle.event.proofs.Laws.{refused-bytes}
 use Rattle.tlc34058.proofs.Pixels.{ticked}
 use Rattle.tlc34058.specs.Struct.{joined}
 use Rattle.tlc34058.specs.Tick.{tick}
@@ -26,7 +27,7 @@ returns c =
     let undefined-bits = c .before .before .before .before .before .undefined-bits in
     let if1 = c .before .before .before .before .if1 in
     let put-answer = c .before .before .put-answer in
-    put-answer .ensures ∙ sym (simp (sym (undefined-bits .ensures) ∙ if1 .taken))
+    put-answer .ensures ∙ refused-bytes 4 ∙ sym (simp (sym (undefined-bits .ensures) ∙ if1 .taken))
 
 slice-write-part : tie.Need-slice-write-part
 slice-write-part c = search needs

@@ -1,7 +1,0 @@
--- The demands, proved.
-mod Order
-mod Runs
-pub mod Demand1
-pub mod Demand2
-pub mod Demand3
-pub mod Witnesses

@@ -1,1 +1,0 @@
-// No code: the user's three demands over the run, the marked lines and the witnesses, each proved.

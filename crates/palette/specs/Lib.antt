@@ -1,2 +1,0 @@
--- The run of a log.
-pub mod Run

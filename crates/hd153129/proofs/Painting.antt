@@ -12,12 +12,12 @@ use Rattle.hd153129.specs.State.{State}
 use Rattle.hd153129.specs.Port.{Access, nothing, accessRefusal, requestWrite, requestRead, request, altersDisplay}
 use Rattle.hd153129.specs.Painting.{paints}
 
-writes : (s : State) (n b : ℕ) → altersDisplay s (requestWrite (s .direction) n b) ≡ paints 0 n (s .direction) (s .cursor .position)
+writes : (s : State) (n b : ℕ) → altersDisplay s (requestWrite (s .direction) n b) ≡ paints kinds.write n (s .direction) (s .cursor .position)
 unfolding requestWrite accessRefusal
 writes s zero b = refl
 writes s (suc zero) b = colours (eqb (s .direction) 1) refl
   where
-    colours : (c : Bool) → eqb (s .direction) 1 ≡ c → altersDisplay s (requestWrite (s .direction) 1 b) ≡ paints 0 1 (s .direction) (s .cursor .position)
+    colours : (c : Bool) → eqb (s .direction) 1 ≡ c → altersDisplay s (requestWrite (s .direction) 1 b) ≡ paints kinds.write 1 (s .direction) (s .cursor .position)
     colours true e = simp e
     colours false e = simp (e, or-false)
 writes s (suc (suc zero)) b = refl

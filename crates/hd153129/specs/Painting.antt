@@ -4,6 +4,7 @@ use mathlib.Core.Bool.{Bool, true, false, not, _&&_, _||_}
 use mathlib.Core.List.{List, [], _∷_}
 use lib.Dec.{T, eqb}
 use lib.ListN.{replicate}
+use Rattle.event.specs.Kinds.{write, read}
 use Rattle.event.specs.Table.{all, AccessRow, accessBy, agrees}
 use Rattle.hd153129.specs.Facts as facts
 use Rattle.hd153129.specs.State.{State}
@@ -12,7 +13,7 @@ use Rattle.hd153129.specs.Port.{accessRefusal, requestWrite, requestRead
 -- an unrefused colour write made at position 2 (one in direction read is refused), or a mask write
 abbrev pub paints : ℕ → ℕ → ℕ → ℕ → Bool
 paints kind selector direction position =
-    eqb kind 0 && ((eqb selector 1 && (not (eqb direction 1) && eqb position 2)) || eqb selector 2)
+    eqb kind write && ((eqb selector 1 && (not (eqb direction 1) && eqb position 2)) || eqb selector 2)
 
 -- an access in a direction at a position
 abbrev pub row : ℕ → ℕ → ℕ → ℕ → Bool → AccessRow State
@@ -30,22 +31,22 @@ row kind selector direction position alters = record {
 unfoldable pub table : List (AccessRow State)
 table =
     -- the end of a triple, and the mask in either direction
-    row 0 1 0 2 true
-    ∷ row 0 2 0 0 true
-    ∷ row 0 2 1 2 true
+    row write 1 0 2 true
+    ∷ row write 2 0 0 true
+    ∷ row write 2 1 2 true
     -- positions 0 and 1; both address writes
-    ∷ row 0 1 0 0 false
-    ∷ row 0 1 0 1 false
-    ∷ row 0 0 0 2 false
-    ∷ row 0 3 0 2 false
+    ∷ row write 1 0 0 false
+    ∷ row write 1 0 1 false
+    ∷ row write 0 0 2 false
+    ∷ row write 3 0 2 false
     -- refused: a colour write in direction read, a selector over 3
-    ∷ row 0 1 1 2 false
-    ∷ row 0 4 0 2 false
+    ∷ row write 1 1 2 false
+    ∷ row write 4 0 2 false
     -- every read
-    ∷ row 1 0 0 2 false
-    ∷ row 1 1 1 2 false
-    ∷ row 1 2 0 2 false
-    ∷ row 1 3 1 2 false
+    ∷ row read 0 0 2 false
+    ∷ row read 1 1 2 false
+    ∷ row read 2 0 2 false
+    ∷ row read 3 1 2 false
     ∷ []
 
 -- every row holds

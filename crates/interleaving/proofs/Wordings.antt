@@ -8,9 +8,9 @@ use lib.ListN.{length}
 use Rattle.interleaving.specs.Log.{Event, access, display, save, accesses, displays, before, Machine, testAt}
 use Rattle.interleaving.specs.Alike.{Shuffle, SameBefore, keepIf, between}
 
-abbrev counted : Bool → ℕ → ℕ
-counted true n = suc n
-counted false n = n
+abbrev oneMoreIf : Bool → ℕ → ℕ
+oneMoreIf true n = suc n
+oneMoreIf false n = n
 
 abbrev kept : {X : Type 0} → Bool → X → List X → List X
 kept true x xs = x ∷ xs
@@ -79,10 +79,10 @@ module _ {S X Y R : Type 0} (m : Machine S X Y R) (p : S → X → Bool) where
   rank : S → List X → ℕ → ℕ
   rank s [] j = 0
   rank s (x ∷ xs) zero = 0
-  rank s (x ∷ xs) (suc j) = counted (p s x) (rank (m .move s x) xs j)
+  rank s (x ∷ xs) (suc j) = oneMoreIf (p s x) (rank (m .move s x) xs j)
 
   before-kept : (s : S) (x : X) (b : Bool) (l k : List (Event X Y)) (j : ℕ) → before l j ≡ before k (rank (m .move s x) (accesses l) j)
-      → before l j ≡ before (keepIf b x k) (counted b (rank (m .move s x) (accesses l) j))
+      → before l j ≡ before (keepIf b x k) (oneMoreIf b (rank (m .move s x) (accesses l) j))
   before-kept s x true l k j e = e
   before-kept s x false l k j e = e
 

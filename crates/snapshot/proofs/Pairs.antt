@@ -54,7 +54,7 @@ part-rest s k = take-all (length s - k) (drop k s) (omega (arith, length-drop k 
 pub record PairAccepted (t : List ℕ) (least p v later : ℕ) : Type 0 where
   pub above : least ≤ p
   pub inside : p < length t
-  pub some : v ≡ 0 → ⊥
+  pub nonzero : v ≡ 0 → ⊥
   pub small : v ≤ getD t p 0
   pub after : later ≡ 0
 
@@ -67,7 +67,7 @@ pair-accepted t least p v later e =
     record {
       above = ltb-false _ _ (a .0);
       inside = leb-false _ _ (b .0);
-      some = eqb-false _ _ (d .0);
+      nonzero = eqb-false _ _ (d .0);
       small = ltb-false _ _ (f .0);
       after = f .1;
     }

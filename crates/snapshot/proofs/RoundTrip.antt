@@ -167,9 +167,9 @@ both-back t (p ∷ ps) (v ∷ vs) pre m e f s =
     let len : length pre′ ≡ p + 1 = simp (length-append, length-replicate) (omega arith) in
     let ih = both-back t ps vs pre′ m′ (omega arith) (omega arith) (rw len (g .after)) in
     let st = stored-at pre m p v d m′ ep em in (
-      ap (λ (r : List ℕ). numbersFrom 0 (placed ps vs r)) st ∙ ih .0 ∙ ap (λ (r : List ℕ). r ++ ps) (numbers-one pre d v (g .some))
+      ap (λ (r : List ℕ). numbersFrom 0 (placed ps vs r)) st ∙ ih .0 ∙ ap (λ (r : List ℕ). r ++ ps) (numbers-one pre d v (g .nonzero))
           ∙ append-snoc (numbersFrom 0 pre) (length pre + d) ps ∙ ap (λ (k : ℕ). numbersFrom 0 pre ++ k ∷ ps) (sym ep),
-      ap (λ (r : List ℕ). valuesOf (placed ps vs r)) st ∙ ih .1 ∙ ap (λ (r : List ℕ). r ++ vs) (values-one pre d v (g .some)) ∙ append-snoc (valuesOf pre) v vs,
+      ap (λ (r : List ℕ). valuesOf (placed ps vs r)) st ∙ ih .1 ∙ ap (λ (r : List ℕ). r ++ vs) (values-one pre d v (g .nonzero)) ∙ append-snoc (valuesOf pre) v vs,
     )
 
 low-byte : (a b : ℕ) → a < 256 → (a + 256 * b) % 256 ≡ a

@@ -96,8 +96,8 @@ snapshot-stored o l chip n room e =
     snapshot-sets o l chip n e ∙ sets-eq s o 0 fits ∙ ap (λ k. s ++ drop k o) (zero-add (length s))
 
 -- one place more counted
-pub counted-more : (l : List ℕ) (i : ℕ) → i < length l → cond (eqb (getD l i 0) 0) 0 1 + length (valuesOf (drop (i + 1) l)) ≡ length (valuesOf (drop i l))
-counted-more l i h =
+pub count-more : (l : List ℕ) (i : ℕ) → i < length l → cond (eqb (getD l i 0) 0) 0 1 + length (valuesOf (drop (i + 1) l)) ≡ length (valuesOf (drop i l))
+count-more l i h =
     decide (cond (eqb (getD l i 0) 0) 0 1 + length (valuesOf (drop (i + 1) l)) ≡ length (valuesOf (drop i l))) (eqb (getD l i 0) 0)
     (λ y. simp y (let e = ap length (values-zero l i h (eqb-true _ _ y)) in omega arith))
     (λ n. simp n (let e = ap length (values-more l i h (eqb-false _ _ n)) in omega arith))

@@ -28,14 +28,14 @@ controls p (suc (suc (suc (suc (suc (suc (suc (suc n)))))))) b =
     let a = suc (suc (suc (suc (suc (suc (suc (suc n))))))) in
     simp (le-ltb a 4 (omega arith), lt-ltb 7 a (omega arith), ne-eqb a 4 (λ e. omega arith), ne-eqb a 5 (λ e. omega arith), ne-eqb a 6 (λ e. omega arith))
 
-writes : (p : Port) (n a b : ℕ) → altersDisplay p (writing a n b) ≡ paints 0 n a (p .cursor .position)
+writes : (p : Port) (n a b : ℕ) → altersDisplay p (writing a n b) ≡ paints kinds.write n a (p .cursor .position)
 unfolding select accessRefusal
 writes p zero a b = refl
 writes p (suc zero) a b = sym (or-false (eqb (p .cursor .position) 2))
 writes p (suc (suc zero)) a b = controls p a b
 writes p (suc (suc (suc zero))) a b = overlays (ltb 3 a) refl
   where
-    overlays : (c : Bool) → ltb 3 a ≡ c → altersDisplay p (writing a 3 b) ≡ paints 0 3 a (p .cursor .position)
+    overlays : (c : Bool) → ltb 3 a ≡ c → altersDisplay p (writing a 3 b) ≡ paints kinds.write 3 a (p .cursor .position)
     overlays true e = simp e
     overlays false e = simp (e, or-false)
 writes p (suc (suc (suc (suc k)))) a b =

@@ -4,6 +4,7 @@ use mathlib.Core.Bool.{Bool, true, false, not, _&&_, _||_}
 use mathlib.Core.List.{List, [], _∷_}
 use lib.Dec.{T, eqb, ltb}
 use lib.ListN.{replicate}
+use Rattle.event.specs.Kinds.{write, read}
 use Rattle.event.specs.Table.{all, AccessRow, accessBy, agrees}
 use Rattle.tlc34058.specs.Facts as facts
 use Rattle.tlc34058.specs.State.{Port}
@@ -12,7 +13,7 @@ use Rattle.tlc34058.specs.Port.{accessRefusal, select, request, altersDi
 -- an unrefused colour write made at position 2 (an overlay write is refused with the address over 3), or an unrefused control write at 04h, 05h or 06h
 abbrev pub paints : ℕ → ℕ → ℕ → ℕ → Bool
 paints kind selector address position =
-    eqb kind 0
+    eqb kind write
     && ((eqb selector 1 && eqb position 2)
     || ((eqb selector 3 && (not (ltb 3 address) && eqb position 2))
     || (eqb selector 2 && (eqb address 4 || (eqb address 5 || eqb address 6)))))
@@ -32,30 +33,30 @@ row kind selector address position alters = record {
 unfoldable pub table : List (AccessRow Port)
 table =
     -- the end of a palette triple and of an overlay triple; registers 04h, 05h, 06h
-    row 0 1 0 2 true
-    ∷ row 0 1 255 2 true
-    ∷ row 0 3 0 2 true
-    ∷ row 0 3 3 2 true
-    ∷ row 0 2 4 0 true
-    ∷ row 0 2 5 1 true
-    ∷ row 0 2 6 2 true
+    row write 1 0 2 true
+    ∷ row write 1 255 2 true
+    ∷ row write 3 0 2 true
+    ∷ row write 3 3 2 true
+    ∷ row write 2 4 0 true
+    ∷ row write 2 5 1 true
+    ∷ row write 2 6 2 true
     -- positions 0 and 1; an address write; 07h
-    ∷ row 0 1 5 0 false
-    ∷ row 0 1 5 1 false
-    ∷ row 0 3 2 0 false
-    ∷ row 0 3 2 1 false
-    ∷ row 0 0 7 2 false
-    ∷ row 0 2 7 2 false
+    ∷ row write 1 5 0 false
+    ∷ row write 1 5 1 false
+    ∷ row write 3 2 0 false
+    ∷ row write 3 2 1 false
+    ∷ row write 0 7 2 false
+    ∷ row write 2 7 2 false
     -- refused: an overlay address over 3, control addresses 3 and 8, a selector over 3
-    ∷ row 0 3 4 2 false
-    ∷ row 0 2 3 2 false
-    ∷ row 0 2 8 2 false
-    ∷ row 0 4 5 2 false
+    ∷ row write 3 4 2 false
+    ∷ row write 2 3 2 false
+    ∷ row write 2 8 2 false
+    ∷ row write 4 5 2 false
     -- every read
-    ∷ row 1 0 5 2 false
-    ∷ row 1 1 5 2 false
-    ∷ row 1 2 5 2 false
-    ∷ row 1 3 2 2 false
+    ∷ row read 0 5 2 false
+    ∷ row read 1 5 2 false
+    ∷ row read 2 5 2 false
+    ∷ row read 3 2 2 false
     ∷ []
 
 -- every row holds

@@ -1,5 +1,5 @@
 -- `count` meets its contract: what is left to count from i on makes up the whole.
-use Rattle.snapshot.proofs.Stores.{counted-more}
+use Rattle.snapshot.proofs.Stores.{count-more}
 use Rattle.snapshot.specs.Snapshot.{valuesOf}
 use denote.Ref.{now}
 use lib.ListN.{length, drop, drop-of-length-le}
@@ -42,7 +42,7 @@ loop-again c =
     let one-unless-zero = c .one-unless-zero in
     let loop-test = c .before .before .loop-test in
     let l = now (args .places) in
-    let e = counted-more l (loop .i) (loop-test .taken) in
+    let e = count-more l (loop .i) (loop-test .taken) in
     (omega (arith, loop-test .taken), omega (arith, one-unless-zero .ensures .1), omega (arith, one-unless-zero .ensures .0, loop .inv .2))
 
 cast-result : tie.Need-cast-result Inv-loop μ-loop

@@ -1,4 +1,4 @@
--- `some` meets its contract.
+-- `one_unless_zero` meets its contract.
 use borrow.Author.Tests.{eq-eqb, ne-eqb}
 use mathlib.Core.Path.{sym}
 use native.Mathlib.Omega.{arith}

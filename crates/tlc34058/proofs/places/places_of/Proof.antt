@@ -1,5 +1,6 @@
 -- `places_of` meets its contract.
 use lib.Seq.{sets}
+use Rattle.tlc34058.specs.Facts as facts
 use Rattle.tlc34058.specs.Struct.{joined}
 use Rattle.tlc34058.specs.Places.{tailOf, placesOf}
 use Rattle.laws.proofs.Lists.{stored-behind}
@@ -52,7 +53,7 @@ returns c =
     let pre = c .before .before .before .before .before .before .before .pre in
     let copy = c .before .before .before .before .copy in
     let s = joined (now (args .colours)) (args .c) in
-    ap (λ (l : List ℕ). sets l 780 (tailOf s)) (copy .ensures) ∙ stored-behind (now (args .colours)) (replicate 789 0) (tailOf s) 780 pre refl
+    ap (λ (l : List ℕ). sets l facts.colours (tailOf s)) (copy .ensures) ∙ stored-behind (now (args .colours)) (replicate facts.places 0) (tailOf s) facts.colours pre refl
 
 pub places-of-spec : {M : Type 1} → statement M
 places-of-spec =

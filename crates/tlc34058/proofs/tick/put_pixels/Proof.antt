@@ -1,5 +1,6 @@
 -- `put_pixels` meets its contract: after i turns the codes of the pixels below i stand behind the first three bytes.
 use Rattle.tlc34058.proofs.Pixels.{Turned, none, turned, whole}
+use Rattle.tlc34058.specs.Facts as facts
 use Rattle.tlc34058.specs.Struct.{registersOf}
 use Rattle.tlc34058.specs.Tick.{codeAt}
 use lib.ListN.{length, getD, take, length-set}
@@ -10,7 +11,7 @@ use Rattle.tlc34058.proofs.tick.put_pixels.Statement.{statement}
 use Rattle.tlc34058.proofs.tick.put_pixels.Tie as tie
 
 abbrev Inv-loop : tie.InvT-loop
-Inv-loop part₀ colours c on n operand ol0₀ ol1₀ i₀ part ol0 ol1 i = (length colours ≡ 780) × Turned (codeAt colours (registersOf c) on n operand) (take 3 part₀) (getD operand 5 0) (getD operand 6 0) part ol0 ol1 i
+Inv-loop part₀ colours c on n operand ol0₀ ol1₀ i₀ part ol0 ol1 i = (length colours ≡ facts.colours) × Turned (codeAt colours (registersOf c) on n operand) (take 3 part₀) (getD operand 5 0) (getD operand 6 0) part ol0 ol1 i
 
 abbrev μ-loop : tie.MeasureT-loop
 μ-loop part₀ colours c on n operand ol0₀ ol1₀ i₀ part ol0 ol1 i = 5 - i

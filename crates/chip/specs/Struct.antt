@@ -7,10 +7,10 @@ use lib.Dec.{eqb}
 use lib.ListN.{length}
 use Rattle.bytes.specs.Buffer.{over}
 use Rattle.event.specs.Answer.{bytesOf}
-use Rattle.event.specs.Event.{Raw, Outcome}
+use Rattle.event.specs.Event.{Outcome}
 use Rattle.tlc34058.specs.Struct as struct₁
 use Rattle.hd153129.specs.Struct as struct₂
-use Rattle.chip.specs.Chip.{State, Whole, named, put, restoredWhole, saved, saveRefusal, snapshotRefusal, played}
+use Rattle.chip.specs.Chip.{State, Whole, named, put, restoredWhole, saved, saveRefusal, snapshotRefusal}
 use Rattle.chip.specs.declared.Chip as code
 use Rattle.chip.specs.declared.Outcome as outcome
 use Rattle.chip.specs.declared.Saved as saving

@@ -1,12 +1,12 @@
 -- Places in two parts, as each chip has them: n colours with one largest value, and the rest with a table of its own.
 use Prim.Native.Nat.{ℕ, zero, suc, _+_, _-_, _≤_, _<_}
 use mathlib.Core.Path.{_≡_}
-use mathlib.Core.List.{List, [], _∷_, _++_, append-nil}
+use mathlib.Core.List.{List, [], _∷_, _++_}
 use native.Mathlib.Omega.{arith}
 use borrow.Author.Tests.{ltb-true, ltb-false}
 use lib.Dec.{ltb}
-use lib.ListN.{length, getD, take, drop, replicate, length-append, length-replicate, length-drop, getD-replicate, take-append-drop, drop-of-length-le, List·getD-append, List·getD-eq-default}
-use lib.Seq.{getD-append-add, length-take-le}
+use lib.ListN.{length, getD, take, drop, replicate, length-append, length-replicate, length-drop, getD-replicate, take-append-drop, List·getD-append, List·getD-eq-default}
+use lib.Seq.{getD-append-add}
 use Rattle.laws.proofs.Tests.{decide}
 use Rattle.snapshot.specs.Snapshot.{Valid}
 

@@ -3,7 +3,7 @@
 use crate::case::Case;
 use crate::damage::{damaged_log, LOG_FAULTS};
 use crate::program::{printed_by, WHOLE};
-use kit::{hexadecimal, log_bytes, read, write, Random, CHIPS};
+use kit::{hexadecimal, highest_kind, log_bytes, read, write, Random, CHIPS};
 use model::{Event, MOST_EVENTS};
 use std::path::Path;
 
@@ -101,7 +101,8 @@ fn reads_inside_triples() -> Vec<Event> {
 
 /// Logs for a run without proof, which an interpreter plays too: for each chip
 /// an accepted log and one of no events, whose end snapshot is the fresh
-/// chip's, then logs with each refusal.
+/// chip's, one event of each kind with no operand byte 0, then logs with each
+/// refusal.
 pub fn samples(random: &mut Random) -> Vec<(String, Vec<u8>)> {
     let mut samples = Vec::new();
     for chip in CHIPS {
@@ -110,6 +111,11 @@ pub fn samples(random: &mut Random) -> Vec<(String, Vec<u8>)> {
         samples.push((format!("empty-chip-{chip}"), log_bytes(chip, &[])));
         let reads = reads_inside_triples();
         samples.push((format!("triples-chip-{chip}"), log_bytes(chip, &reads)));
+        for kind in 0..=highest_kind(chip) {
+            let operand = [1; 8];
+            let name = format!("operand-of-kind-{kind}-chip-{chip}");
+            samples.push((name, log_bytes(chip, &[Event { kind, operand }])));
+        }
     }
     for fault in LOG_FAULTS {
         for chip in CHIPS {

@@ -1,4 +1,4 @@
--- Colour accesses, as both chips make them: the entry's three components go one by one through the held bytes.
+-- Colour accesses, as the chips make them: the entry's three components go one by one through the held bytes.
 use Prim.Native.Nat.{ℕ, _+_, _*_}
 use mathlib.Core.Bool.{cond}
 use mathlib.Core.List.{List}

@@ -32,7 +32,7 @@ exceptFrom i test (x ∷ xs) = cond (test i) 0 x ∷ exceptFrom (suc i) test xs
 
 -- ---- places to bytes
 
--- the bytes of a snapshot of so many places, none of which is 0
+-- the bytes of a snapshot that has so many places
 abbrev pub roomFor : ℕ → ℕ
 roomFor places = 3 + 3 * places
 
@@ -100,7 +100,7 @@ refusalFor chip largest s =
     cond (ltb (length s) 3) 20
     (cond (eqb (getD s 0 0) chip)
     (cond (ltb (length largest) (placeCount s)) 22
-    (cond (eqb (length s) (3 + 3 * placeCount s)) (pairsRefusal largest 0 (numbersIn s) (valuesIn s))
+    (cond (eqb (length s) (roomFor (placeCount s))) (pairsRefusal largest 0 (numbersIn s) (valuesIn s))
     23))
     21)
 

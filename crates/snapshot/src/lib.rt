@@ -8,6 +8,12 @@ ghost use lib.Seq.{sets};
 ghost use Rattle.bytes.specs.Buffer.{over};
 ghost use Rattle.snapshot.specs.Snapshot.{roomFor, within as fits, valueRefusal, numbersFrom, valuesOf, twoBytes, snapshotOf, wordsOf, pairsRefusal, placed, PlacesBelow, refusalFor, resaved, Valid, Decoded};
 
+// The chip byte and the count.
+pub const HEADER_BYTES: usize = 3;
+
+// A place's number, two bytes, and its value.
+pub const PAIR_BYTES: usize = 3;
+
 // As many places as the table has, each at most its largest value.
 fn within(largest: &[u8], places: &[u8]) -> bool
     ensures { λ r. ⌜ r ≡ fits (now (largest .entry)) (now (places .entry)) ⌝ }
@@ -65,8 +71,8 @@ fn put_pairs(places: &[u8], out: &mut [u8], n: usize)
     ensures { λ _. ⌜ now (out .exit) ≡ sets (sets (now (out .entry)) 3 (twoBytes (numbersFrom 0 (now (places .entry))))) (3 + 2 * n) (valuesOf (now (places .entry))) ⌝ }
 {
     let mut i = 0;
-    let mut k: usize = 3;
-    let mut v = 3 + 2 * n;
+    let mut k = HEADER_BYTES;
+    let mut v = HEADER_BYTES + 2 * n;
     while i < places.len() {
         let byte = places[i]; // read once: the compiler can't tell that out doesn't overlap
         if byte == 0 {
@@ -92,7 +98,7 @@ pub fn encode(chip: u8, places: &[u8], out: &mut [u8]) -> usize
     out[1] = (n % 256) as u8;
     out[2] = (n / 256 % 256) as u8;
     put_pairs(places, out, n);
-    3 + 3 * n
+    HEADER_BYTES + PAIR_BYTES * n
 }
 
 // 24 or 25 for the first pair that has it, or 0.
@@ -127,7 +133,7 @@ fn check_pairs(largest: &[u8], numbers: &[u8], values: &[u8]) -> u8
 pub fn check(chip: u8, largest: &[u8], s: &[u8]) -> u8
     ensures { λ r. ⌜ r ≡ refusalFor chip (now (largest .entry)) (now (s .entry)) ⌝ }
 {
-    if s.len() < 3 {
+    if s.len() < HEADER_BYTES {
         return 20;
     }
     if s[0] != chip {
@@ -137,11 +143,11 @@ pub fn check(chip: u8, largest: &[u8], s: &[u8]) -> u8
     if largest.len() < n {
         return 22;
     }
-    if s.len() != 3 + 3 * n {
+    if s.len() != HEADER_BYTES + PAIR_BYTES * n {
         return 23;
     }
-    let mid = 3 + 2 * n;
-    check_pairs(largest, &s[3..mid], &s[mid..])
+    let mid = HEADER_BYTES + 2 * n;
+    check_pairs(largest, &s[HEADER_BYTES..mid], &s[mid..])
 }
 
 fn clear(places: &mut [u8])
@@ -177,9 +183,9 @@ pub fn decode(chip: u8, largest: &[u8], s: &[u8], places: &mut [u8]) -> u8
         return r;
     }
     let n = bytes::word(s, 1);
-    let mid = 3 + 2 * n;
+    let mid = HEADER_BYTES + 2 * n;
     clear(places);
-    put_places(&s[3..mid], &s[mid..], places);
+    put_places(&s[HEADER_BYTES..mid], &s[mid..], places);
     0
 }
 

@@ -8,6 +8,7 @@ ghost use Rattle.tlc34058.specs.Struct.{joined};
 use crate::COLOURS;
 use crate::Control;
 use crate::LARGEST_COLOUR;
+use crate::LONGEST_SNAPSHOT;
 use crate::NUMBER;
 use crate::PLACES;
 use colour::Cursor;
@@ -90,7 +91,7 @@ pub fn save_and_restore(colours: &mut [u8], c: Control) -> Control
 {
     let mut places = places_of(colours, c);
     let t = largest();
-    let mut snapshot = [0u8; 3 + 3 * PLACES];
+    let mut snapshot = [0u8; LONGEST_SNAPSHOT];
     snapshot::save_places(NUMBER, &t, &mut places, &mut snapshot);
     bytes::fill(&places, colours);
     control_from(places)

@@ -4,6 +4,7 @@ CFLAGS ?= -O2
 WARNINGS = -std=c11 -Wall -Wextra -pedantic -Werror
 LIBPALETTE ?= target/staticlib/libpalette.a
 REPLAY ?= target/bin/replay
+TOOL ?= target/tool/palette
 VERSION = $(shell sed -n 's/^.define PALETTE_VERSION_[A-Z]* //p' include/palette.h | paste -s -d . -)
 SECONDS ?= 600
 SEED ?= 0x7a19e261
@@ -12,20 +13,24 @@ DESTDIR ?=
 CALLS ?= target/bin/calls
 COMPARE = tests/target/release/compare
 CASES = tests/target/release/cases
+DRIVER = tests/target/release/tool
 CRATES = crates.txt $(wildcard crates/*/src/* crates/*/specs/* crates/*/proofs/* crates/*/proofs/*/* crates/*/proofs/*/*/*)
 # What the scripts and the comparison's build find the library and the programs by.
-export LIBPALETTE REPLAY CALLS CC
+export LIBPALETTE REPLAY CALLS TOOL CC
 # It would move what cargo builds to another folder.
 unexport CARGO_BUILD_TARGET
 
-.PHONY: run help test prove lib replay calls examples compare-build compare test-examples time fuzz test-c test-readme test-trace seeded bench install fmt clean
+.PHONY: run help test prove lib replay calls tool examples compare-build compare test-examples time fuzz test-c test-tool test-readme test-trace seeded bench install fmt clean
 # rt uses every core by itself, and two of them at once would share target/.
 .NOTPARALLEL:
 
-# The sample log, as the printing program prints it and as the restore tool shows it.
-run: $(REPLAY) examples ## replay a sample log
+# The sample log, as the printing program prints it and as the tool shows it.
+run: $(REPLAY) $(TOOL) ## replay a sample log
+	@mkdir -p target/examples
+	$(TOOL) assemble --log target/examples/first.log examples/first.txt
 	$(REPLAY) <target/examples/first.log
-	target/examples/restore - target/examples/first.log target/examples/first.end
+	$(TOOL) run --end target/examples/first.snapshot fresh target/examples/first.log
+	$(TOOL) show target/examples/first.snapshot
 
 help: ## list the targets
 	@awk -F ':.*## ' '/^[a-z-]+:.*## / { printf "%-15s %s\n", $$1, $$2 }' Makefile
@@ -53,15 +58,20 @@ calls: $(CALLS) ## prove and build the program that plays single calls
 target/bin/calls: $(CRATES)
 	$(call quietly,proving and building the program of single calls,calls,$(program))
 
-target/examples/%.log: examples/%.txt examples/assemble
+tool: $(TOOL) ## build the palette tool
+target/tool/palette: $(wildcard tool/*.c tool/*.h) include/palette.h $(LIBPALETTE)
 	@mkdir -p $(@D)
-	@examples/assemble $< >$@.part && mv $@.part $@
+	@$(CC) $(WARNINGS) $(CFLAGS) -Iinclude tool/*.c $(LIBPALETTE) $(LDLIBS) -o $@
+
+target/examples/%.log: examples/%.txt $(TOOL)
+	@mkdir -p $(@D)
+	@$(TOOL) assemble --log $@ $<
 
 target/examples/restore: examples/restore.c include/palette.h $(LIBPALETTE)
 	@mkdir -p $(@D)
 	@$(CC) $(WARNINGS) $(CFLAGS) -Iinclude examples/restore.c $(LIBPALETTE) $(LDLIBS) -o $@
 
-examples: target/examples/first.log target/examples/second.log target/examples/restore ## the sample logs and the restore tool
+examples: target/examples/first.log target/examples/second.log target/examples/restore ## the sample logs and the example program
 
 # Its build sees whether the library has changed.
 compare-build: $(LIBPALETTE) ## build the comparison with the second model
@@ -79,20 +89,24 @@ time: compare-build ## how long the library takes beside the second model
 fuzz: compare-build $(REPLAY) $(CALLS) ## the comparison for SECONDS=n from SEED=s
 	$(COMPARE) --seconds $(SECONDS) --seed $(SEED) --replay $(REPLAY) --calls $(CALLS)
 
-test-c: $(LIBPALETTE) $(REPLAY) ## the C header, the installed files and the restore tool
+test-c: $(LIBPALETTE) $(REPLAY) $(TOOL) ## the C header, the installed files and the example program
 	tests/c/run
 
-test-readme: $(LIBPALETTE) ## README's C program and the paths that the documents name
+test-tool: compare-build ## the palette tool
+	tests/tool/run --driver $(DRIVER)
+
+test-readme: $(LIBPALETTE) $(TOOL) ## README's programs and the paths that the documents name
 	tests/readme
 
 test-trace: ## the names in docs/TRACE.md
 	tests/trace
 
 # Each mistake must be caught.
-seeded: compare-build ## mistakes seeded into the model, the plain program and the code
+seeded: compare-build ## mistakes seeded into the model, the plain program, the code and the tool
 	tests/seeded-mistakes
 	tests/seeded-bugs
 	tests/seeded-code
+	tests/seeded-tool
 
 target/bench/bench: bench/bench.c bench/plain.c bench/plain.h include/palette.h $(LIBPALETTE)
 	@mkdir -p $(@D)
@@ -102,11 +116,13 @@ bench: target/bench/bench ## time the library beside a plain C program
 	target/bench/bench
 
 # Each file is replaced in one step.
-install: $(LIBPALETTE) $(REPLAY) ## header, library, printing program and pkg-config file, to PREFIX=..
-	install -d $(DESTDIR)$(PREFIX)/include $(DESTDIR)$(PREFIX)/lib/pkgconfig $(DESTDIR)$(PREFIX)/bin
+install: $(LIBPALETTE) $(REPLAY) $(TOOL) ## header, library, programs, manual page and pkg-config file, to PREFIX=..
+	install -d $(DESTDIR)$(PREFIX)/include $(DESTDIR)$(PREFIX)/lib/pkgconfig $(DESTDIR)$(PREFIX)/bin $(DESTDIR)$(PREFIX)/share/man/man1
 	install -m 644 include/palette.h $(DESTDIR)$(PREFIX)/include/palette.h
 	install -m 644 $(LIBPALETTE) $(DESTDIR)$(PREFIX)/lib/libpalette.a
 	install -m 755 $(REPLAY) $(DESTDIR)$(PREFIX)/bin/replay
+	install -m 755 $(TOOL) $(DESTDIR)$(PREFIX)/bin/palette
+	install -m 644 tool/palette.1 $(DESTDIR)$(PREFIX)/share/man/man1/palette.1
 	sed -e 's|@PREFIX@|$(PREFIX)|' -e 's|@VERSION@|$(VERSION)|' palette.pc.in >target/palette.pc
 	install -m 644 target/palette.pc $(DESTDIR)$(PREFIX)/lib/pkgconfig/palette.pc
 

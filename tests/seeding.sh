@@ -1,5 +1,5 @@
-# What seeded-mistakes, seeded-bugs and seeded-code share; they source it. Each
-# seeds one bug at a time into a copy and requires that it is caught. With
+# What the scripts seeded-* share; they source it. Each seeds one bug at a time
+# into a copy and requires that it is caught. With
 # --check as first word they only look at what they would seed: nothing is
 # compiled or run.
 #

@@ -19,7 +19,7 @@ use std::path::{Path, PathBuf};
 /// Tries that may be spent on making one failing case small.
 const TRIES_FOR_ONE: usize = 4_000;
 /// The same where each try runs a program.
-const RUNS_FOR_ONE: usize = 300;
+pub const RUNS_FOR_ONE: usize = 300;
 
 /// A pair whose ticks differ, so the painting condition is seen to matter.
 const CONDITION_MATTERS: &str = "demand 3: painting not kept, a tick differs";
@@ -46,18 +46,22 @@ pub struct Comparison {
     pub may_lack: bool,
 }
 
+/// A random source for one class in one round: a class's cases don't depend on
+/// which other classes there are.
+pub fn random_for(seed: u64, name: &str, round: u64) -> Random {
+    let mut seed = seed ^ round.wrapping_mul(0xA076_1D64_78BD_642F);
+    for byte in name.bytes() {
+        seed = Random::seeded(seed ^ u64::from(byte)).next();
+    }
+    Random::seeded(seed)
+}
+
 impl Comparison {
-    /// A random source for one class in one round: a class's cases don't
-    /// depend on which other classes there are.
     fn random(&self, name: &str, round: u64) -> Random {
         if self.trace {
             eprintln!("round {round}: {name}");
         }
-        let mut seed = self.seed ^ round.wrapping_mul(0xA076_1D64_78BD_642F);
-        for byte in name.bytes() {
-            seed = Random::seeded(seed ^ u64::from(byte)).next();
-        }
-        Random::seeded(seed)
+        random_for(self.seed, name, round)
     }
 
     /// Whether a class can be tried: the library must have its call.

@@ -1,6 +1,6 @@
-//! Compares the compiled library and the proved programs with the second
-//! model, and checks demand 3 and the data sheets' examples on the library
-//! itself. The programs in src/bin say how they use it.
+//! Compares the compiled library, the proved programs and the command line tool
+//! with the second model, and checks demand 3 and the data sheets' examples on
+//! the library itself. The programs in src/bin say how they use it.
 
 pub mod blocks;
 pub mod calls;
@@ -9,6 +9,7 @@ pub mod classes;
 pub mod comparison;
 pub mod damage;
 pub mod library;
+pub mod options;
 pub mod program;
 pub mod replay;
 pub mod report;
@@ -16,3 +17,4 @@ pub mod sheets;
 pub mod shrink;
 pub mod shuffle;
 pub mod time;
+pub mod tool;

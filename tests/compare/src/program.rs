@@ -25,31 +25,65 @@ fn feed(mut pipe: impl Write, bytes: &[u8], piece: usize) -> io::Result<()> {
     Ok(())
 }
 
+/// How a program ended, and what it printed.
+pub struct Ended {
+    pub status: i32,
+    pub output: Vec<u8>,
+    /// What it said on standard error.
+    pub errors: Vec<u8>,
+}
+
 /// What the program prints for this input.
 pub fn printed_by(program: &Path, bytes: &[u8], piece: usize) -> Result<Vec<u8>, String> {
-    let fault = |fault: io::Error| format!("{}: {fault}", program.display());
-    let mut child = Command::new(program)
-        .stdin(Stdio::piped())
-        .stdout(Stdio::piped())
-        .spawn()
-        .map_err(fault)?;
-    let stdin = child.stdin.take();
-    let input = bytes.to_vec();
-    let feeder = thread::spawn(move || match stdin {
-        Some(pipe) => feed(pipe, &input, piece),
-        None => Ok(()),
+    Ok(ended(&mut Command::new(program), bytes, piece)?.output)
+}
+
+/// How the program ends with these words behind its name and this input.
+pub fn ended_by(
+    program: &Path,
+    words: &[&str],
+    bytes: &[u8],
+    piece: usize,
+) -> Result<Ended, String> {
+    let mut command = Command::new(program);
+    command.args(words).stderr(Stdio::piped());
+    ended(&mut command, bytes, piece)
+}
+
+/// Each pipe has a thread, so that none of them is waited for while another is
+/// full.
+fn ended(command: &mut Command, bytes: &[u8], piece: usize) -> Result<Ended, String> {
+    let name = command.get_program().to_string_lossy().into_owned();
+    let fault = |fault: io::Error| format!("{name}: {fault}");
+    let piped = command.stdin(Stdio::piped()).stdout(Stdio::piped());
+    let mut child = piped.spawn().map_err(fault)?;
+    let (stdin, stdout, stderr) = (child.stdin.take(), child.stdout.take(), child.stderr.take());
+    let (fed, output, errors) = thread::scope(|scope| {
+        let feeder = scope.spawn(move || match stdin {
+            Some(pipe) => feed(pipe, bytes, piece),
+            None => Ok(()),
+        });
+        let listener = scope.spawn(move || all_of(stderr));
+        let output = all_of(stdout);
+        (feeder.join(), output, listener.join())
     });
-    let mut output = Vec::new();
-    if let Some(mut pipe) = child.stdout.take() {
-        pipe.read_to_end(&mut output).map_err(fault)?;
-    }
     let status = child.wait().map_err(fault)?;
-    match feeder.join() {
-        Ok(fed) => fed.map_err(fault)?,
-        Err(_) => return Err("the input could not be written".into()),
+    let (Ok(fed), Ok(errors)) = (fed, errors) else {
+        return Err("its input could not be written, or its errors not be read".into());
+    };
+    fed.map_err(fault)?;
+    Ok(Ended {
+        status: (status.code()).ok_or_else(|| format!("the program died: {status}"))?,
+        output: output.map_err(fault)?,
+        errors: errors.map_err(fault)?,
+    })
+}
+
+/// What comes through a pipe, nothing if there is none.
+fn all_of(pipe: Option<impl Read>) -> io::Result<Vec<u8>> {
+    let mut bytes = Vec::new();
+    if let Some(mut pipe) = pipe {
+        pipe.read_to_end(&mut bytes)?;
     }
-    if status.code().is_none() {
-        return Err(format!("the program died: {status}"));
-    }
-    Ok(output)
+    Ok(bytes)
 }

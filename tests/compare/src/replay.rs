@@ -55,7 +55,7 @@ fn damaged(random: &mut Random, number: usize) -> (Vec<u8>, usize) {
 }
 
 /// A log or a header with much more behind it than belongs there.
-fn very_long(random: &mut Random, number: usize) -> (Vec<u8>, usize) {
+pub fn very_long(random: &mut Random, number: usize) -> (Vec<u8>, usize) {
     let chip = random.chip();
     let mut bytes = match number % 4 {
         0 => log_bytes(chip, &random.events(chip, MOST_EVENTS)),

@@ -90,6 +90,9 @@ pub enum Subject {
     Replay,
     /// The program that plays calls on a state.
     Calls,
+    /// The command line tool, in one class: texts, logs and snapshots don't
+    /// compare.
+    Tool(&'static str),
 }
 
 /// A failing case.

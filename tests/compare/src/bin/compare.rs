@@ -13,6 +13,7 @@ use compare::calls::classes;
 use compare::calls::record::Record;
 use compare::comparison::{Comparison, Programs};
 use compare::library::{lacks, Call};
+use compare::options::{number, DEFAULT_SEED};
 use compare::report::Report;
 use compare::{replay, time};
 use kit::Random;
@@ -23,7 +24,6 @@ use std::{fs, io};
 
 /// Rounds of the random classes when no time is given.
 const ROUNDS: u64 = 30;
-const DEFAULT_SEED: u64 = 0x7A19_E261;
 /// Tries that may be spent on making failing cases small.
 const DEFAULT_TRIES: usize = 12_000;
 const USAGE: &str = "compare [--seconds N] [--seed S] [--replay PATH] [--calls PATH] \
@@ -39,13 +39,6 @@ struct Options {
     trace: bool,
     time: bool,
     write: Option<PathBuf>,
-}
-
-fn number(text: &str) -> Option<u64> {
-    match text.strip_prefix("0x") {
-        Some(digits) => u64::from_str_radix(digits, 16).ok(),
-        None => text.parse().ok(),
-    }
 }
 
 fn options(mut arguments: impl Iterator<Item = String>) -> Option<Options> {

@@ -1,0 +1,199 @@
+//! The classes of inputs for the tool, and what each must reach.
+
+use crate::report::{row, Table, ACCEPTED};
+use crate::tool::check::{self, Checked};
+use crate::tool::input::Input;
+use crate::tool::make::{self, Made};
+use crate::tool::Tool;
+use kit::{Random, CHIPS};
+use model::Refusal;
+
+pub struct Class {
+    pub name: &'static str,
+    /// One input for so many of the first class.
+    share: usize,
+    /// As many as it takes to reach all that must be reached.
+    fewest: usize,
+    /// What must be reached beside the class itself.
+    pub parts: &'static [&'static str],
+    /// The refusals that must be reached, and no other.
+    pub table: Option<&'static Table>,
+    /// Makes the input with this number.
+    pub make: fn(&Tool, &mut Random, usize) -> Made,
+    pub check: fn(&Tool, &Input) -> Checked,
+}
+
+impl Class {
+    /// How many inputs there are when the first class has so many.
+    pub fn inputs(&self, first: usize) -> usize {
+        self.fewest.max(first / self.share)
+    }
+}
+
+pub const LISTED_CHIPS: [&str; CHIPS.len()] = [
+    "tool: list, then assemble: chip 1",
+    "tool: list, then assemble: chip 2",
+];
+pub const LISTED_EMPTY: &str = "tool: list, then assemble: no event";
+pub const LISTED_MOST: &str = "tool: list, then assemble: as many events as there may be";
+pub const LISTED_VERTICALS: &str = "tool: list, then assemble: over 255 vertical periods in a row";
+pub const LISTED_PIECES: &str = "tool: list, then assemble: in small pieces through a pipe";
+pub const RUN_CHIPS: [&str; CHIPS.len()] = [
+    "tool: run and the end snapshot: chip 1",
+    "tool: run and the end snapshot: chip 2",
+];
+pub const RUN_TICK: &str = "tool: run and the end snapshot: ticks not blanked";
+pub const RUN_BLANKED: &str = "tool: run and the end snapshot: ticks blanked";
+pub const LONG_LOG: &str = "tool: inputs longer than any buffer: logs";
+pub const LONG_SNAPSHOT: &str = "tool: inputs longer than any buffer: snapshots";
+pub const ASSEMBLED: &str = "tool: damaged texts: assembled";
+pub const NOT_UNDERSTOOD: &str = "tool: damaged texts: not understood";
+pub const SHOWN_CHIPS: [&str; CHIPS.len()] =
+    ["tool: show and diff: chip 1", "tool: show and diff: chip 2"];
+pub const SHOWN_DIFFERENT: &str = "tool: show and diff: places that differ";
+
+pub const CLASSES: &[Class] = &[
+    Class {
+        name: "tool: list, then assemble",
+        share: 1,
+        fewest: 40,
+        parts: &[
+            LISTED_CHIPS[0],
+            LISTED_CHIPS[1],
+            LISTED_EMPTY,
+            LISTED_MOST,
+            LISTED_VERTICALS,
+            LISTED_PIECES,
+        ],
+        table: Some(&LISTED),
+        make: make::accepted_log,
+        check: check::listed_and_assembled,
+    },
+    Class {
+        name: "tool: list refuses",
+        share: 5,
+        fewest: 24,
+        parts: &[],
+        table: Some(&LIST_REFUSES),
+        make: make::refused_log,
+        check: check::listed_and_assembled,
+    },
+    Class {
+        name: "tool: run and the end snapshot",
+        share: 4,
+        fewest: 24,
+        parts: &[RUN_CHIPS[0], RUN_CHIPS[1], RUN_TICK, RUN_BLANKED],
+        table: Some(&RUN),
+        make: make::accepted_run,
+        check: check::played_to_the_end,
+    },
+    Class {
+        name: "tool: run refuses",
+        share: 4,
+        fewest: 45,
+        parts: &[],
+        table: Some(&RUN_REFUSES),
+        make: make::refused_run,
+        check: check::played_to_the_end,
+    },
+    Class {
+        name: "tool: inputs longer than any buffer",
+        share: 25,
+        fewest: 16,
+        parts: &[LONG_LOG, LONG_SNAPSHOT],
+        table: Some(&LONG),
+        make: make::long_input,
+        check: check::refused_whole,
+    },
+    Class {
+        name: "tool: damaged texts",
+        share: 3,
+        fewest: 60,
+        parts: &[ASSEMBLED, NOT_UNDERSTOOD],
+        table: None,
+        make: make::damaged_text,
+        check: check::assembled,
+    },
+    Class {
+        name: "tool: show and diff",
+        share: 5,
+        fewest: 60,
+        parts: &[SHOWN_CHIPS[0], SHOWN_CHIPS[1], SHOWN_DIFFERENT],
+        table: Some(&SHOWN),
+        make: make::two_snapshots,
+        check: check::shown_and_compared,
+    },
+];
+
+static LISTED: Table = Table {
+    title: "list, then assemble",
+    rows: &[ACCEPTED],
+};
+
+static LIST_REFUSES: Table = Table {
+    title: "list",
+    rows: &[
+        row(Refusal::LogShort, "log under 5 bytes"),
+        row(Refusal::LogChip, "log's chip"),
+        row(Refusal::LogCount, "log's count"),
+        row(Refusal::LogLength, "log's length"),
+        row(Refusal::Kind, "kind over the highest"),
+        row(Refusal::UnusedByte, "unused operand byte"),
+    ],
+};
+
+static RUN: Table = Table {
+    title: "run, and in the lines that it prints",
+    rows: &[
+        ACCEPTED,
+        row(Refusal::Selector, "selector over 3"),
+        row(Refusal::Address, "overlay or control address"),
+        row(Refusal::Direction, "direction"),
+        row(Refusal::TickBits, "tick bits"),
+        row(Refusal::Vertical, "vertical period on a chip without one"),
+    ],
+};
+
+static RUN_REFUSES: Table = Table {
+    title: "run",
+    rows: &[
+        row(Refusal::LogShort, "log under 5 bytes"),
+        row(Refusal::LogChip, "log's chip"),
+        row(Refusal::LogCount, "log's count"),
+        row(Refusal::LogLength, "log's length"),
+        row(Refusal::Kind, "kind over the highest"),
+        row(Refusal::UnusedByte, "unused operand byte"),
+        row(Refusal::SnapshotShort, "snapshot under 3 bytes"),
+        row(Refusal::SnapshotChip, "snapshot's chip"),
+        row(Refusal::SnapshotCount, "snapshot's count"),
+        row(Refusal::SnapshotLength, "snapshot's length"),
+        row(Refusal::Place, "place"),
+        row(Refusal::Value, "value"),
+        row(Refusal::TwoChips, "snapshot and log for two chips"),
+    ],
+};
+
+static LONG: Table = Table {
+    title: "inputs longer than any buffer",
+    rows: &[
+        row(Refusal::LogChip, "log's chip"),
+        row(Refusal::LogCount, "log's count"),
+        row(Refusal::LogLength, "log's length"),
+        row(Refusal::SnapshotChip, "snapshot's chip"),
+        row(Refusal::SnapshotCount, "snapshot's count"),
+        row(Refusal::SnapshotLength, "snapshot's length"),
+    ],
+};
+
+static SHOWN: Table = Table {
+    title: "show and diff",
+    rows: &[
+        ACCEPTED,
+        row(Refusal::SnapshotShort, "snapshot under 3 bytes"),
+        row(Refusal::SnapshotChip, "snapshot's chip"),
+        row(Refusal::SnapshotCount, "snapshot's count"),
+        row(Refusal::SnapshotLength, "snapshot's length"),
+        row(Refusal::Place, "place"),
+        row(Refusal::Value, "value"),
+    ],
+};

@@ -1,0 +1,61 @@
+//! What the model makes of the tool's inputs.
+
+use kit::{snapshot_bytes, CHIPS};
+use model::{Event, ANSWER_BYTES, END_BUFFER_BYTES, MOST_EVENTS};
+
+/// An accepted run.
+pub struct Run {
+    pub chip: u8,
+    pub events: Vec<Event>,
+    pub answers: Vec<u8>,
+    pub end: Vec<u8>,
+}
+
+impl Run {
+    /// Each event and its answer.
+    pub fn answered(&self) -> impl Iterator<Item = (&Event, &[u8])> {
+        self.events.iter().zip(self.answers.chunks(ANSWER_BYTES))
+    }
+}
+
+/// An accepted run, or the refusal.
+pub type Outcome = Result<Run, u64>;
+
+/// A run with room for any log's answers and end snapshot.
+pub fn run(snapshot: &[u8], log: &[u8]) -> Outcome {
+    let mut answers = vec![0; ANSWER_BYTES * MOST_EVENTS];
+    let mut end = vec![0; END_BUFFER_BYTES];
+    let result = model::run(snapshot, log, &mut answers, &mut end);
+    match (result >> 16, model::read_log(log)) {
+        (0, Ok(read)) => {
+            answers.truncate(ANSWER_BYTES * read.events.len());
+            end.truncate(result as usize);
+            Ok(Run {
+                chip: read.chip,
+                events: read.events,
+                answers,
+                end,
+            })
+        }
+        (refusal, _) => Err(refusal),
+    }
+}
+
+/// The fresh chip that a log names, a fresh chip 1 if it names none.
+pub fn fresh(log: &[u8]) -> Vec<u8> {
+    let named = log.first().filter(|chip| CHIPS.contains(chip));
+    snapshot_bytes(named.copied().unwrap_or(1), &[])
+}
+
+/// The refusal of a log with the fresh chip that it names, 0 if it is accepted.
+pub fn refusal_of_log(log: &[u8]) -> u64 {
+    run(&fresh(log), log).err().unwrap_or(0)
+}
+
+/// The refusal of a snapshot, 0 if it is accepted.
+pub fn refusal_of_snapshot(snapshot: &[u8]) -> u64 {
+    match model::restore(snapshot).refusal {
+        Some(refusal) => refusal.number().into(),
+        None => 0,
+    }
+}

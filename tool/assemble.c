@@ -1,0 +1,221 @@
+/* palette assemble: a log from its text. */
+#include <stdio.h>
+#include <string.h>
+
+#include "files.h"
+#include "library.h"
+#include "refusals.h"
+#include "subcommands.h"
+#include "text.h"
+
+/* The log so far: in a log's bytes the operands come behind all the kinds. */
+struct draft {
+    const struct chip *chip; /* NULL until it is named */
+    size_t events;
+    uint8_t kinds[PALETTE_MOST_EVENTS];
+    uint8_t operands[PALETTE_MOST_EVENTS][PALETTE_OPERAND_BYTES];
+};
+
+static bool refused(const struct text *text, unsigned refusal)
+{
+    return fault(text, "refused (%u): %s", refusal, refusal_in_words(refusal));
+}
+
+/* --- events ---------------------------------------------------------------- */
+
+static bool add_event(const struct text *text, struct draft *draft, uint8_t kind,
+                      const uint8_t *operand)
+{
+    if (draft->events == PALETTE_MOST_EVENTS)
+        return refused(text, PALETTE_REFUSED_LOG_COUNT);
+    draft->kinds[draft->events] = kind;
+    memcpy(draft->operands[draft->events], operand, PALETTE_OPERAND_BYTES);
+    draft->events++;
+    return true;
+}
+
+static bool add_write(const struct text *text, struct draft *draft)
+{
+    uint8_t operand[PALETTE_OPERAND_BYTES] = {0};
+    return has_words(text, 3) && selector(text, draft->chip, text->word[1], &operand[0]) &&
+           byte(text, text->word[2], &operand[1]) &&
+           add_event(text, draft, PALETTE_KIND_WRITE, operand);
+}
+
+static bool add_read(const struct text *text, struct draft *draft)
+{
+    uint8_t operand[PALETTE_OPERAND_BYTES] = {0};
+    return has_words(text, 2) && selector(text, draft->chip, text->word[1], &operand[0]) &&
+           add_event(text, draft, PALETTE_KIND_READ, operand);
+}
+
+/* How many words a chip's tick has, its first one too. */
+static size_t tick_words(const struct chip *chip)
+{
+    size_t words = 1;
+    for (size_t i = 0; i < chip->tick_fields; i++)
+        words += chip->tick[i].word != NULL ? 2 : 1;
+    return words;
+}
+
+static bool add_tick(const struct text *text, struct draft *draft)
+{
+    uint8_t operand[PALETTE_OPERAND_BYTES] = {0};
+    size_t next = 1;
+    if (!has_words(text, tick_words(draft->chip)))
+        return false;
+    for (size_t i = 0; i < draft->chip->tick_fields; i++) {
+        const struct field *field = &draft->chip->tick[i];
+        if (field->word != NULL && strcmp(text->word[next], field->word) != 0) {
+            char what[32];
+            snprintf(what, sizeof what, "expected %s, found", field->word);
+            return word_fault(text, what, text->word[next]);
+        }
+        next += field->word != NULL;
+        if (!byte(text, text->word[next++], &operand[field->byte]))
+            return false;
+    }
+    return add_event(text, draft, PALETTE_KIND_TICK, operand);
+}
+
+/* One vertical period or, with a number, so many. */
+static bool add_verticals(const struct text *text, struct draft *draft)
+{
+    static const uint8_t operand[PALETTE_OPERAND_BYTES] = {0};
+    unsigned left = 1;
+    if (text->words > 1 &&
+        !(has_words(text, 2) && number(text, text->word[1], UINT16_MAX, &left)))
+        return false;
+    for (; left > 0; left--) {
+        if (!add_event(text, draft, PALETTE_KIND_VERTICAL, operand))
+            return false;
+    }
+    return true;
+}
+
+static bool add_save(const struct text *text, struct draft *draft)
+{
+    static const uint8_t operand[PALETTE_OPERAND_BYTES] = {0};
+    return has_words(text, 1) && add_event(text, draft, PALETTE_KIND_SAVE, operand);
+}
+
+static bool (*const adders[KINDS])(const struct text *text, struct draft *draft) = {
+    [PALETTE_KIND_WRITE] = add_write,
+    [PALETTE_KIND_READ] = add_read,
+    [PALETTE_KIND_TICK] = add_tick,
+    [PALETTE_KIND_VERTICAL] = add_verticals,
+    [PALETTE_KIND_SAVE] = add_save,
+};
+
+/* --- the text -------------------------------------------------------------- */
+
+/* The library says whether there is such a chip, by a log of no events. */
+static bool name_chip(const struct text *text, struct draft *draft)
+{
+    static struct log empty;
+    if (draft->chip != NULL)
+        return fault(text, "the chip is named already");
+    if (!has_words(text, 2) || !byte(text, text->word[1], &empty.bytes[0]))
+        return false;
+    empty.len = PALETTE_LOG_HEADER_BYTES;
+    unsigned refusal = log_refusal(&empty);
+    if (refusal != PALETTE_ACCEPTED)
+        return refused(text, refusal);
+    draft->chip = accepted_chip(empty.bytes[0]);
+    return draft->chip != NULL;
+}
+
+static bool understand(const struct text *text, struct draft *draft)
+{
+    if (text->words == 0)
+        return true;
+    if (strcmp(text->word[0], "chip") == 0)
+        return name_chip(text, draft);
+    if (draft->chip == NULL)
+        return fault(text, "the first line names the chip, as in: chip 1");
+    for (size_t kind = 0; kind < KINDS; kind++) {
+        if (strcmp(text->word[0], kind_words[kind]) == 0)
+            return adders[kind](text, draft);
+    }
+    return word_fault(text, "no such event", text->word[0]);
+}
+
+/* Reads the whole text; gives a status. */
+static int read_text(struct text *text, struct draft *draft)
+{
+    while (!feof(text->file)) {
+        bool good = read_line(text);
+        if (ferror(text->file)) {
+            complain(path_in_words(text->path));
+            return STATUS_FAILED;
+        }
+        if (!good || !understand(text, draft))
+            return STATUS_REFUSED;
+    }
+    if (draft->chip != NULL)
+        return STATUS_DONE;
+    fault(text, "the text ends and has named no chip");
+    return STATUS_REFUSED;
+}
+
+static void put_together(const struct draft *draft, struct log *log)
+{
+    uint8_t *next = log->bytes;
+    *next++ = draft->chip->number;
+    for (unsigned shift = 0; shift < 32; shift += 8)
+        *next++ = (uint8_t)((uint32_t)draft->events >> shift);
+    memcpy(next, draft->kinds, draft->events);
+    memcpy(next + draft->events, draft->operands, PALETTE_OPERAND_BYTES * draft->events);
+    log->len = PALETTE_LOG_BYTES(draft->events);
+}
+
+static int play(const struct words *words)
+{
+    static struct text text;
+    static struct draft draft;
+    static struct log log;
+    const char *target = words->option[OPTION_LOG];
+    text.path = words->operand[0];
+    text.file = is_standard(text.path) ? stdin : fopen(text.path, "r");
+    if (text.file == NULL) {
+        complain(text.path);
+        return STATUS_FAILED;
+    }
+    int status = read_text(&text, &draft);
+    if (text.file != stdin)
+        fclose(text.file);
+    if (status != STATUS_DONE)
+        return status;
+    put_together(&draft, &log);
+    unsigned refusal = log_refusal(&log);
+    if (refusal != PALETTE_ACCEPTED) {
+        say_refused(text.path, refusal);
+        return STATUS_REFUSED;
+    }
+    struct output output = {
+        .path = target != NULL ? target : "-", .bytes = log.bytes, .len = log.len};
+    return write_files(&output, 1) ? STATUS_DONE : STATUS_FAILED;
+}
+
+const struct subcommand assemble_subcommand = {
+    .name = "assemble",
+    .synopsis = "[--log FILE] TEXT",
+    .help = "Makes a log from its text and writes it to standard output. A line names the\n"
+            "chip or an event; # starts a comment. Numbers are decimal, or hexadecimal with an\n"
+            "h behind them.\n"
+            "\n"
+            "  chip 1                                   chip 2\n"
+            "  write SELECTOR BYTE                      write SELECTOR BYTE\n"
+            "  read SELECTOR                            read SELECTOR\n"
+            "  tick A B C D E ol0 N ol1 N levels N      tick PIXEL levels N\n"
+            "  vertical [HOW MANY]                      vertical [HOW MANY]\n"
+            "  save                                     save\n"
+            "\n"
+            "SELECTOR is a number or a name, on chip 1 address, palette, control or overlay,\n"
+            "on chip 2 address, colour, mask or read-address.\n"
+            "\n"
+            "  --log FILE   write the log to a file, whole or not at all\n",
+    .takes = {[OPTION_LOG] = true},
+    .operands = 1,
+    .play = play,
+};

@@ -1,0 +1,54 @@
+/* What the subcommands read and write, and what they say on standard error. */
+#ifndef FILES_H
+#define FILES_H
+
+#include <stdbool.h>
+#include <stddef.h>
+#include <stdint.h>
+#include <sys/types.h>
+
+/* Lets the compiler hold the arguments to the format. */
+#ifdef __GNUC__
+#define PRINTF_LIKE(text, first) __attribute__((format(printf, text, first)))
+#else
+#define PRINTF_LIKE(text, first)
+#endif
+
+/* Exit statuses. */
+enum { STATUS_DONE = 0, STATUS_REFUSED = 1, STATUS_DIFFERENT = 1, STATUS_FAILED = 2 };
+
+/* "-": standard input or output. */
+bool is_standard(const char *path);
+
+/* A path as messages have it. */
+const char *path_in_words(const char *path);
+
+/* The subcommand that speaks in messages from here on. */
+void speak_as(const char *subcommand);
+
+/* Says a line on standard error. */
+void say(const char *format, ...) PRINTF_LIKE(1, 2);
+
+/* Says what errno says of a file. */
+void complain(const char *path);
+
+/* Reads a file's first bytes, `room` of them or all that it has: what comes
+ * behind them is left unread. */
+bool read_file(const char *path, uint8_t *bytes, size_t room, size_t *len);
+
+/* Bytes that are to become a file. */
+struct output {
+    const char *path;
+    const uint8_t *bytes;
+    size_t len;
+    /* Only write_files uses these. */
+    char *target, *temporary;
+    mode_t mode;
+};
+
+/* Writes the files. Each is replaced in one step, and none before all are
+ * written beside their places: whoever looks finds the old file or the whole
+ * new one. */
+bool write_files(struct output *outputs, size_t count);
+
+#endif

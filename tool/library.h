@@ -1,0 +1,65 @@
+/* The library's byte strings: snapshots and logs from files, and the runs that
+ * say whether they are accepted. */
+#ifndef LIBRARY_H
+#define LIBRARY_H
+
+#include <stdbool.h>
+#include <stddef.h>
+#include <stdint.h>
+
+#include "chips.h"
+
+/* One byte more than the longest that is accepted. Of a longer file the rest is
+ * not read: whatever it holds, the refusal is the one that the bytes here give. */
+struct snapshot {
+    uint8_t bytes[PALETTE_END_BYTES + 1];
+    size_t len;
+};
+
+struct log {
+    uint8_t bytes[PALETTE_MOST_LOG_BYTES + 1];
+    size_t len;
+};
+
+/* What a run leaves. */
+struct answers {
+    uint8_t bytes[PALETTE_MOST_ANSWER_BYTES];
+    uint8_t end[PALETTE_END_BYTES];
+    size_t end_len;
+};
+
+bool read_snapshot(const char *path, struct snapshot *snapshot);
+bool read_log(const char *path, struct log *log);
+
+/* A snapshot of the fresh chip that the log names, of a fresh chip 1 where it
+ * names none. */
+void make_fresh(const struct log *log, struct snapshot *snapshot);
+
+/* Runs a log; gives the refusal. */
+unsigned run_log(const struct snapshot *snapshot, const struct log *log,
+                 struct answers *answers);
+
+/* Whether a snapshot is accepted, and a log with the fresh chip that it names:
+ * the refusal. */
+unsigned snapshot_refusal(const struct snapshot *snapshot);
+unsigned log_refusal(const struct log *log);
+
+/* Of an accepted log. */
+size_t event_count(const struct log *log);
+uint8_t kind_of(const struct log *log, size_t event);
+const uint8_t *operand_of(const struct log *log, size_t event);
+
+/* The places of a chip. */
+struct state {
+    const struct chip *chip;
+    uint8_t places[PALETTE_MOST_PLACES];
+};
+
+/* Reads a snapshot and takes it apart, once the library has accepted it. Gives a
+ * status, and has said what is wrong. */
+int read_state(const char *path, struct state *state);
+
+/* An entry's three codes. */
+const uint8_t *entry_of(const struct state *state, size_t entry);
+
+#endif

@@ -1,0 +1,106 @@
+/* palette list: a log as the text that assembles to it. */
+#include "files.h"
+#include "library.h"
+#include "print.h"
+#include "refusals.h"
+#include "subcommands.h"
+
+static void print_selector(const struct chip *chip, uint8_t selector)
+{
+    if (selector < SELECTORS)
+        print(" %s", chip->selectors[selector]);
+    else
+        print(" %u", selector);
+}
+
+static void print_tick(const struct chip *chip, const uint8_t *operand)
+{
+    for (size_t i = 0; i < chip->tick_fields; i++) {
+        if (chip->tick[i].word != NULL)
+            print(" %s", chip->tick[i].word);
+        print(" %02Xh", operand[chip->tick[i].byte]);
+    }
+}
+
+/* One line of the text, for an event or, of vertical periods, some that follow
+ * each other. */
+static void print_event(const struct chip *chip, uint8_t kind, const uint8_t *operand,
+                        size_t times)
+{
+    print("%s", kind_words[kind]);
+    switch ((enum palette_kind)kind) {
+    case PALETTE_KIND_WRITE:
+        print_selector(chip, operand[0]);
+        print(" %02Xh", operand[1]);
+        break;
+    case PALETTE_KIND_READ:
+        print_selector(chip, operand[0]);
+        break;
+    case PALETTE_KIND_TICK:
+        print_tick(chip, operand);
+        break;
+    case PALETTE_KIND_VERTICAL:
+        if (times > 1)
+            print(" %zu", times);
+        break;
+    case PALETTE_KIND_SAVE:
+        break;
+    }
+}
+
+/* How many events from this one make one line. */
+static size_t on_one_line(const struct log *log, size_t event)
+{
+    size_t times = 1;
+    if (kind_of(log, event) != PALETTE_KIND_VERTICAL)
+        return times;
+    while (event + times < event_count(log) &&
+           kind_of(log, event + times) == PALETTE_KIND_VERTICAL)
+        times++;
+    return times;
+}
+
+static void print_log(const struct chip *chip, const struct log *log, bool numbers)
+{
+    size_t times;
+    print("chip %u\n", chip->number);
+    for (size_t event = 0; event < event_count(log); event += times) {
+        times = on_one_line(log, event);
+        print_event(chip, kind_of(log, event), operand_of(log, event), times);
+        if (numbers && times == 1)
+            print(" # event %zu", event);
+        else if (numbers)
+            print(" # events %zu to %zu", event, event + times - 1);
+        print("\n");
+    }
+}
+
+static int play(const struct words *words)
+{
+    static struct log log;
+    const char *path = words->operand[0];
+    if (!read_log(path, &log))
+        return STATUS_FAILED;
+    unsigned refusal = log_refusal(&log);
+    if (refusal != PALETTE_ACCEPTED) {
+        say_refused(path, refusal);
+        return STATUS_REFUSED;
+    }
+    const struct chip *chip = accepted_chip(log.bytes[0]);
+    if (chip == NULL)
+        return STATUS_FAILED;
+    print_log(chip, &log, words->option[OPTION_NUMBERS] != NULL);
+    return finish_printing(false) ? STATUS_DONE : STATUS_FAILED;
+}
+
+const struct subcommand list_subcommand = {
+    .name = "list",
+    .synopsis = "[--numbers] LOG",
+    .help = "Prints a log as text, which palette assemble makes the same bytes of.\n"
+            "\n"
+            "  --numbers    name each line's events in a comment, by the numbers that palette\n"
+            "               run has for them\n",
+    .takes = {[OPTION_NUMBERS] = true},
+    .operands = 1,
+    .play = play,
+};

@@ -1,0 +1,175 @@
+/* palette run: plays a log and says what the console shows. */
+#include <stdlib.h>
+#include <string.h>
+
+#include "files.h"
+#include "library.h"
+#include "picture.h"
+#include "print.h"
+#include "refusals.h"
+#include "subcommands.h"
+
+/* An accepted run. */
+struct played {
+    const struct chip *chip;
+    const struct log *log;
+    const struct answers *answers;
+};
+
+static const uint8_t *answer_to(const struct played *played, size_t event)
+{
+    return played->answers->bytes + PALETTE_ANSWER_BYTES * event;
+}
+
+/* A tick's answer: byte 1 the pixel count, byte 2 the levels, then colours. */
+static size_t pixel_count(const uint8_t *answer)
+{
+    return answer[1];
+}
+
+static const uint8_t *pixel_of(const uint8_t *answer, size_t pixel)
+{
+    return answer + 3 + COMPONENTS * pixel;
+}
+
+static bool is_shown_tick(const struct played *played, size_t event)
+{
+    return kind_of(played->log, event) == PALETTE_KIND_TICK &&
+           answer_to(played, event)[0] == PALETTE_ACCEPTED;
+}
+
+static void print_tick(const struct played *played, size_t event)
+{
+    const uint8_t *answer = answer_to(played, event);
+    print("event %zu, tick%s:", event, (answer[2] & 1) != 0 ? "" : ", blanked");
+    for (size_t pixel = 0; pixel < pixel_count(answer); pixel++)
+        print_colour(played->chip, pixel_of(answer, pixel));
+    print("\n");
+}
+
+static void print_refused(const struct played *played, size_t event)
+{
+    uint8_t kind = kind_of(played->log, event), refusal = answer_to(played, event)[0];
+    print("event %zu, %s: refused (%u): %s\n", event, kind_words[kind], refusal,
+          refusal_in_words(refusal));
+}
+
+/* What the console shows, event by event. */
+static void print_played(const struct played *played)
+{
+    size_t events = event_count(played->log), ticks = 0, refused = 0;
+    print_chip(played->chip);
+    for (size_t event = 0; event < events; event++) {
+        if (answer_to(played, event)[0] != PALETTE_ACCEPTED) {
+            print_refused(played, event);
+            refused++;
+        } else if (is_shown_tick(played, event)) {
+            print_tick(played, event);
+            ticks++;
+        }
+    }
+    print("%zu events, %zu ticks shown, %zu refused, end snapshot of %zu bytes\n", events, ticks,
+          refused, played->answers->end_len);
+}
+
+/* A picture has a row for each tick shown, as wide as the widest. */
+static void measure(const struct played *played, size_t *width, size_t *height)
+{
+    *width = *height = 0;
+    for (size_t event = 0; event < event_count(played->log); event++) {
+        if (is_shown_tick(played, event)) {
+            size_t pixels = pixel_count(answer_to(played, event));
+            *width = pixels > *width ? pixels : *width;
+            ++*height;
+        }
+    }
+}
+
+/* Rows of fewer pixels end in black. */
+static bool draw(const struct played *played, struct picture *picture)
+{
+    size_t width, height, row = 0;
+    measure(played, &width, &height);
+    if (!start_picture(picture, width, height))
+        return false;
+    for (size_t event = 0; event < event_count(played->log); event++) {
+        if (!is_shown_tick(played, event))
+            continue;
+        const uint8_t *answer = answer_to(played, event);
+        for (size_t pixel = 0; pixel < pixel_count(answer); pixel++)
+            set_pixel(picture, pixel, row, played->chip, pixel_of(answer, pixel));
+        row++;
+    }
+    return true;
+}
+
+static bool shows_a_tick(const struct played *played)
+{
+    size_t width, height;
+    measure(played, &width, &height);
+    return height > 0;
+}
+
+/* The picture and the end snapshot, if they are wanted. */
+static bool write_wanted(const struct words *words, const struct played *played)
+{
+    struct output outputs[2];
+    struct picture picture = {0};
+    size_t count = 0;
+    const char *ppm = words->option[OPTION_PPM], *end = words->option[OPTION_END];
+    if (ppm != NULL && !shows_a_tick(played)) {
+        say("no tick is shown, so there is no picture");
+    } else if (ppm != NULL) {
+        if (!draw(played, &picture))
+            return false;
+        outputs[count++] =
+            (struct output){.path = ppm, .bytes = picture.bytes, .len = picture.len};
+    }
+    if (end != NULL)
+        outputs[count++] = (struct output){
+            .path = end, .bytes = played->answers->end, .len = played->answers->end_len};
+    bool good = write_files(outputs, count);
+    free(picture.bytes);
+    return good;
+}
+
+static int play(const struct words *words)
+{
+    static struct log log;
+    static struct answers answers;
+    struct snapshot snapshot;
+    bool fresh = strcmp(words->operand[0], "fresh") == 0;
+    if (!fresh && !read_snapshot(words->operand[0], &snapshot))
+        return STATUS_FAILED;
+    if (!read_log(words->operand[1], &log))
+        return STATUS_FAILED;
+    if (fresh)
+        make_fresh(&log, &snapshot);
+    unsigned refusal = run_log(&snapshot, &log, &answers);
+    if (refusal != PALETTE_ACCEPTED) {
+        say("refused (%u): %s", refusal, refusal_in_words(refusal));
+        return STATUS_REFUSED;
+    }
+    struct played played = {accepted_chip(log.bytes[0]), &log, &answers};
+    if (played.chip == NULL)
+        return STATUS_FAILED;
+    print_played(&played);
+    bool wanted = words->option[OPTION_END] != NULL || words->option[OPTION_PPM] != NULL;
+    return finish_printing(wanted) && write_wanted(words, &played) ? STATUS_DONE : STATUS_FAILED;
+}
+
+const struct subcommand run_subcommand = {
+    .name = "run",
+    .synopsis = "[--end FILE] [--ppm FILE] SNAPSHOT LOG",
+    .help = "Plays a log from a snapshot. Prints each tick's pixels as colours #rrggbb, in\n"
+            "the chip's own codes, and each event that the chip refuses.\n"
+            "\n"
+            "SNAPSHOT may be fresh: the fresh chip that the log names, or a fresh chip 1\n"
+            "where it names none.\n"
+            "\n"
+            "  --end FILE   write the snapshot at the log's end\n"
+            "  --ppm FILE   write a picture, a row for each tick shown\n",
+    .takes = {[OPTION_END] = true, [OPTION_PPM] = true},
+    .operands = 2,
+    .play = play,
+};

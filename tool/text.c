@@ -1,0 +1,141 @@
+#include "text.h"
+
+#include <ctype.h>
+#include <stdarg.h>
+#include <string.h>
+
+bool fault(const struct text *text, const char *format, ...)
+{
+    char what[256];
+    va_list arguments;
+    va_start(arguments, format);
+    vsnprintf(what, sizeof what, format, arguments);
+    va_end(arguments);
+    say("%s, line %llu: %s", path_in_words(text->path), text->line, what);
+    return false;
+}
+
+bool word_fault(const struct text *text, const char *what, const char *word)
+{
+    char shown[4 * WORD_ROOM];
+    size_t len = 0;
+    for (; *word != '\0'; word++) {
+        unsigned char c = (unsigned char)*word;
+        const char *format = c > ' ' && c <= '~' ? "%c" : "\\x%02X";
+        len += (size_t)snprintf(shown + len, sizeof shown - len, format, c);
+    }
+    return fault(text, "%s: %s", what, shown);
+}
+
+/* --- lines ----------------------------------------------------------------- */
+
+static bool ends_line(int c)
+{
+    return c == '\n' || c == EOF;
+}
+
+/* Reads the word that starts with c; c is then the character behind it. */
+static bool read_word(struct text *text, int *c)
+{
+    char more[WORD_ROOM], *word = text->words < MOST_WORDS ? text->word[text->words] : more;
+    size_t len = 0;
+    for (; !ends_line(*c) && *c != '#' && !isspace(*c); *c = getc(text->file)) {
+        if (*c == '\0')
+            return fault(text, "a zero byte: this is not a text");
+        word[len++] = (char)*c;
+        word[len] = '\0';
+        if (len == WORD_ROOM - 1)
+            return word_fault(text, "a word is too long", word);
+    }
+    text->words++;
+    return true;
+}
+
+bool read_line(struct text *text)
+{
+    int c = getc(text->file);
+    text->line++;
+    text->words = 0;
+    while (!ends_line(c)) {
+        if (c == '#') {
+            while (!ends_line(c))
+                c = getc(text->file);
+        } else if (isspace(c)) {
+            c = getc(text->file);
+        } else if (!read_word(text, &c)) {
+            return false;
+        }
+    }
+    return true;
+}
+
+/* --- words ----------------------------------------------------------------- */
+
+bool has_words(const struct text *text, size_t count)
+{
+    return text->words == count || fault(text, "wrong number of words");
+}
+
+/* The value of a digit, or the base if it is none. */
+static unsigned digit_value(char digit, unsigned base)
+{
+    static const char digits[] = "0123456789abcdef";
+    const char *at = memchr(digits, tolower((unsigned char)digit), base);
+    return at != NULL ? (unsigned)(at - digits) : base;
+}
+
+/* How many digits a number has, or 0 if the word isn't one: decimal, or
+ * hexadecimal with an h behind it. */
+static size_t number_digits(const char *word, unsigned *base)
+{
+    size_t len = strlen(word);
+    bool hexadecimal = len > 0 && word[len - 1] == 'h';
+    size_t digits = hexadecimal ? len - 1 : len;
+    *base = hexadecimal ? 16 : 10;
+    for (size_t i = 0; i < digits; i++) {
+        if (digit_value(word[i], *base) == *base)
+            return 0;
+    }
+    return digits;
+}
+
+bool number(const struct text *text, const char *word, unsigned most, unsigned *value)
+{
+    unsigned base;
+    size_t digits = number_digits(word, &base);
+    *value = 0;
+    for (size_t i = 0; i < digits && *value <= most; i++)
+        *value = base * *value + digit_value(word[i], base);
+    if (digits == 0)
+        return word_fault(text, "not a number", word);
+    if (*value > most) {
+        char what[32];
+        snprintf(what, sizeof what, "over %u", most);
+        return word_fault(text, what, word);
+    }
+    return true;
+}
+
+bool byte(const struct text *text, const char *word, uint8_t *value)
+{
+    unsigned found;
+    if (!number(text, word, UINT8_MAX, &found))
+        return false;
+    *value = (uint8_t)found;
+    return true;
+}
+
+bool selector(const struct text *text, const struct chip *chip, const char *word,
+              uint8_t *value)
+{
+    unsigned base;
+    for (uint8_t i = 0; i < SELECTORS; i++) {
+        if (strcmp(chip->selectors[i], word) == 0) {
+            *value = i;
+            return true;
+        }
+    }
+    if (number_digits(word, &base) == 0)
+        return word_fault(text, "no such selector", word);
+    return byte(text, word, value);
+}

@@ -1,11 +1,11 @@
 # Plays sessions: what is typed, and what is then seen. tests/tool/run and
 # tests/readme source it, behind common.sh.
 #
-#   # A comment.
-#   $ palette list - <log
-#   what is printed on standard output
-#   ! what is printed on standard error
-#   [1]
+# | # A comment.
+# | $ palette list - <log
+# | what is printed on standard output
+# | ! what is printed on standard error
+# | [1]
 #
 # The last line is the exit status, left out if it is 0. Blank lines before a
 # command, a comment or the end are for the reader. Each command is a test and

@@ -78,13 +78,14 @@ static bool add_tick(const struct text *text, struct draft *draft)
     return add_event(text, draft, PALETTE_KIND_TICK, operand);
 }
 
+_Static_assert(PALETTE_MOST_EVENTS < TOO_LARGE, "no log has so many events");
+
 /* One vertical period or, with a number, so many. */
 static bool add_verticals(const struct text *text, struct draft *draft)
 {
     static const uint8_t operand[PALETTE_OPERAND_BYTES] = {0};
     unsigned left = 1;
-    if (text->words > 1 &&
-        !(has_words(text, 2) && number(text, text->word[1], UINT16_MAX, &left)))
+    if (text->words > 1 && !(has_words(text, 2) && number(text, text->word[1], &left)))
         return false;
     for (; left > 0; left--) {
         if (!add_event(text, draft, PALETTE_KIND_VERTICAL, operand))

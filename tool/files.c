@@ -108,6 +108,19 @@ static mode_t new_mode(void)
     return 0666 & ~mask;
 }
 
+/* A file that isn't there yet. A link that leads nowhere stays. */
+static bool find_new_target(struct output *output)
+{
+    struct stat link;
+    if (lstat(output->path, &link) == 0) {
+        errno = ENOENT;
+        return false;
+    }
+    output->mode = new_mode();
+    output->target = strdup(output->path);
+    return output->target != NULL;
+}
+
 /* Finds the file that will be replaced, links followed, and the mode of the new
  * one. What isn't a file (a terminal, a pipe, a device) can't be replaced: it
  * has no target. */
@@ -116,14 +129,8 @@ static bool find_target(struct output *output)
     struct stat old;
     if (is_standard(output->path))
         return true;
-    if (stat(output->path, &old) != 0) {
-        /* A link that leads nowhere stays. */
-        if (errno != ENOENT || lstat(output->path, &old) == 0)
-            return false;
-        output->mode = new_mode();
-        output->target = strdup(output->path);
-        return output->target != NULL;
-    }
+    if (stat(output->path, &old) != 0)
+        return errno == ENOENT && find_new_target(output);
     if (S_ISDIR(old.st_mode)) {
         errno = EISDIR;
         return false;
@@ -161,7 +168,9 @@ static bool write_temporary(struct output *output)
     memcpy(name + len, ending, sizeof ending);
     int file = mkstemp(name);
     if (file < 0) {
+        int why = errno;
         free(name);
+        errno = why;
         return false;
     }
     output->temporary = name;

@@ -24,8 +24,8 @@ static const struct place rest[PLACES - ADDRESS] = {
     [ADDRESS - ADDRESS] = {"address register", false},
     [POSITION - ADDRESS] = {"position", true},
     [DIRECTION - ADDRESS] = {"direction", true},
-    [HELD_RED - ADDRESS] = {"held red", false},
-    [HELD_GREEN - ADDRESS] = {"held green", false},
+    [HELD_RED - ADDRESS] = {"held red (R register)", false},
+    [HELD_GREEN - ADDRESS] = {"held green (G register)", false},
     [PIXEL_MASK - ADDRESS] = {"pixel mask register", false},
 };
 

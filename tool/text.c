@@ -99,30 +99,23 @@ static size_t number_digits(const char *word, unsigned *base)
     return digits;
 }
 
-bool number(const struct text *text, const char *word, unsigned most, unsigned *value)
+bool number(const struct text *text, const char *word, unsigned *value)
 {
     unsigned base;
     size_t digits = number_digits(word, &base);
     *value = 0;
-    for (size_t i = 0; i < digits && *value <= most; i++)
+    for (size_t i = 0; i < digits && *value < TOO_LARGE; i++)
         *value = base * *value + digit_value(word[i], base);
-    if (digits == 0)
-        return word_fault(text, "not a number", word);
-    if (*value > most) {
-        char what[32];
-        snprintf(what, sizeof what, "over %u", most);
-        return word_fault(text, what, word);
-    }
-    return true;
+    return digits > 0 || word_fault(text, "not a number", word);
 }
 
 bool byte(const struct text *text, const char *word, uint8_t *value)
 {
     unsigned found;
-    if (!number(text, word, UINT8_MAX, &found))
+    if (!number(text, word, &found))
         return false;
     *value = (uint8_t)found;
-    return true;
+    return found <= UINT8_MAX || word_fault(text, "over 255", word);
 }
 
 bool selector(const struct text *text, const struct chip *chip, const char *word,

@@ -33,8 +33,10 @@ bool read_line(struct text *text);
 
 bool has_words(const struct text *text, size_t count);
 
-/* A decimal number, or a hexadecimal one with an h behind it. */
-bool number(const struct text *text, const char *word, unsigned most, unsigned *value);
+/* A decimal number, or a hexadecimal one with an h behind it. Of one that is too
+ * large for any use here only that is given. */
+enum { TOO_LARGE = 65536 };
+bool number(const struct text *text, const char *word, unsigned *value);
 
 bool byte(const struct text *text, const char *word, uint8_t *value);
 

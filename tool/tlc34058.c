@@ -24,8 +24,8 @@ _Static_assert(PLACES == PALETTE_TLC34058_PLACES, "every place has its name");
 static const struct place rest[PLACES - ADDRESS] = {
     [ADDRESS - ADDRESS] = {"address register (ADDR0-7)", false},
     [POSITION - ADDRESS] = {"position (ADDRa,b)", true},
-    [HELD_RED - ADDRESS] = {"held red", false},
-    [HELD_GREEN - ADDRESS] = {"held green", false},
+    [HELD_RED - ADDRESS] = {"held red (RREG)", false},
+    [HELD_GREEN - ADDRESS] = {"held green (GREG)", false},
     [READ_MASK - ADDRESS] = {"read mask register (04h)", false},
     [BLINK_MASK - ADDRESS] = {"blink mask register (05h)", false},
     [COMMAND - ADDRESS] = {"command register (06h)", false},

@@ -115,7 +115,6 @@ target/bench/bench: bench/bench.c bench/plain.c bench/plain.h include/palette.h 
 bench: target/bench/bench ## time the library beside a plain C program
 	target/bench/bench
 
-# Each file is replaced in one step.
 install: $(LIBPALETTE) $(REPLAY) $(TOOL) ## header, library, programs, manual page and pkg-config file, to PREFIX=..
 	install -d $(DESTDIR)$(PREFIX)/include $(DESTDIR)$(PREFIX)/lib/pkgconfig $(DESTDIR)$(PREFIX)/bin $(DESTDIR)$(PREFIX)/share/man/man1
 	install -m 644 include/palette.h $(DESTDIR)$(PREFIX)/include/palette.h

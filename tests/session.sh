@@ -11,12 +11,13 @@
 # command, a comment or the end are for the reader. Each command is a test and
 # starts in the same folder; the files that it leaves are there for the next.
 # shellcheck shell=bash
-root=$PWD
+need bash timeout diff od sed
+export root=$PWD
 
-# What a command does, as a session has it.
+# What a command does, as a session has it. One that doesn't end is ended.
 seen() { # folder, command, scratch file
     local status
-    (cd "$1" && eval "$2") >"$3.out" 2>"$3.err" </dev/null
+    (cd "$1" && timeout 60 bash -c "$2") >"$3.out" 2>"$3.err" </dev/null
     status=$?
     cat "$3.out"
     [ ! -s "$3.out" ] || [ -z "$(tail -c 1 "$3.out")" ] || printf '\n\\ no end of line\n'
@@ -87,3 +88,4 @@ full_snapshot() {
     printf -v digits '%02x%02x' "$((places % 256))" $((places / 256))
     bytes 01 "$digits" "$numbers" "$values"
 }
+export -f bytes hexadecimal full_snapshot

@@ -4,6 +4,7 @@
 
 #include "files.h"
 #include "library.h"
+#include "outputs.h"
 #include "refusals.h"
 #include "subcommands.h"
 #include "text.h"
@@ -213,7 +214,9 @@ const struct subcommand assemble_subcommand = {
             "  save                                     save\n"
             "\n"
             "SELECTOR is a number or a name, on chip 1 address, palette, control or overlay,\n"
-            "on chip 2 address, colour, mask or read-address.\n"
+            "on chip 2 address, colour, mask or read-address. ol0 and ol1 have pixel A in\n"
+            "bit 0 up to E in bit 4; levels has BLK in bit 0 and SYNC in bit 1, on chip 2\n"
+            "BLANK in bit 0.\n"
             "\n"
             "  --log FILE   write the log to a file, whole or not at all\n",
     .takes = {[OPTION_LOG] = true},

@@ -1,11 +1,10 @@
-/* What the subcommands read and write, and what they say on standard error. */
+/* What the subcommands read, and what they say on standard error. */
 #ifndef FILES_H
 #define FILES_H
 
 #include <stdbool.h>
 #include <stddef.h>
 #include <stdint.h>
-#include <sys/types.h>
 
 /* Lets the compiler hold the arguments to the format. */
 #ifdef __GNUC__
@@ -35,20 +34,5 @@ void complain(const char *path);
 /* Reads a file's first bytes, `room` of them or all that it has: what comes
  * behind them is left unread. */
 bool read_file(const char *path, uint8_t *bytes, size_t room, size_t *len);
-
-/* Bytes that are to become a file. */
-struct output {
-    const char *path;
-    const uint8_t *bytes;
-    size_t len;
-    /* Only write_files uses these. */
-    char *target, *temporary;
-    mode_t mode;
-};
-
-/* Writes the files. Each is replaced in one step, and none before all are
- * written beside their places: whoever looks finds the old file or the whole
- * new one. */
-bool write_files(struct output *outputs, size_t count);
 
 #endif

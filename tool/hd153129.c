@@ -1,4 +1,4 @@
-/* The HD153129's words, as its data sheet has them. */
+/* The HD153129's words: its data sheet's, and document 01's where that has none. */
 #include <stdio.h>
 
 #include "chips.h"

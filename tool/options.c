@@ -51,25 +51,6 @@ static bool take_option(const struct subcommand *subcommand, char ***next, struc
     return *words->option[option] != '\0';
 }
 
-/* No two outputs may be one file, nor two inputs standard input. */
-static bool each_once(const struct words *words, size_t operands)
-{
-    for (enum option i = 0; i < OPTIONS; i++) {
-        for (enum option j = 0; j < i; j++) {
-            if (options[i].is_file && options[j].is_file && words->option[i] != NULL &&
-                words->option[j] != NULL && strcmp(words->option[i], words->option[j]) == 0) {
-                say("%s and %s name one file", options[j].name, options[i].name);
-                return false;
-            }
-        }
-    }
-    if (operands == 2 && is_standard(words->operand[0]) && is_standard(words->operand[1])) {
-        say("standard input can be read only once");
-        return false;
-    }
-    return true;
-}
-
 bool parse(const struct subcommand *subcommand, char **arguments, struct words *words)
 {
     size_t operands = 0;
@@ -95,5 +76,9 @@ bool parse(const struct subcommand *subcommand, char **arguments, struct words *
         say(operands < subcommand->operands ? "a word is missing" : "a word too many");
         return false;
     }
-    return each_once(words, operands);
+    if (operands == 2 && is_standard(words->operand[0]) && is_standard(words->operand[1])) {
+        say("standard input can be read only once");
+        return false;
+    }
+    return true;
 }

@@ -33,7 +33,7 @@ struct subcommand {
 };
 
 /* Sorts the words behind the subcommand's name; says what is wrong with them.
- * With --help nothing else counts. */
+ * With --help it doesn't matter how many operands there are. */
 bool parse(const struct subcommand *subcommand, char **arguments, struct words *words);
 
 #endif

@@ -42,7 +42,9 @@ void print(const char *format, ...)
 
 bool finish_printing(bool files_follow)
 {
-    if (to_standard_error || (fflush(stdout) == 0 && !ferror(stdout)))
+    if (to_standard_error)
+        return !ferror(stderr);
+    if (fflush(stdout) == 0 && !ferror(stdout))
         return true;
     if (files_follow || errno != EPIPE)
         complain("standard output");

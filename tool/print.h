@@ -19,7 +19,8 @@ void settle_printing(const struct words *words);
 void print(const char *format, ...) PRINTF_LIKE(1, 2);
 
 /* What has been printed is out, or says that it can't be written. Of a pipe that
- * its reader has closed nothing is said, unless files were to follow. */
+ * its reader has closed nothing is said, unless files were to follow; of standard
+ * error nothing can be said. */
 bool finish_printing(bool files_follow);
 
 /* On a terminal that shows colours, a space and a cell of this colour. */

@@ -4,6 +4,7 @@
 
 #include "files.h"
 #include "library.h"
+#include "outputs.h"
 #include "picture.h"
 #include "print.h"
 #include "refusals.h"
@@ -133,6 +134,19 @@ static bool write_wanted(const struct words *words, const struct played *played)
     return good;
 }
 
+/* The file that the library refuses by itself; if neither, it refuses the two
+ * together. */
+static void say_which_refused(const struct words *words, const struct snapshot *snapshot,
+                              const struct log *log, unsigned refusal)
+{
+    if (snapshot_refusal(snapshot) == refusal)
+        say_refused(words->operand[0], refusal);
+    else if (log_refusal(log) == refusal)
+        say_refused(words->operand[1], refusal);
+    else
+        say("refused (%u): %s", refusal, refusal_in_words(refusal));
+}
+
 static int play(const struct words *words)
 {
     static struct log log;
@@ -147,7 +161,7 @@ static int play(const struct words *words)
         make_fresh(&log, &snapshot);
     unsigned refusal = run_log(&snapshot, &log, &answers);
     if (refusal != PALETTE_ACCEPTED) {
-        say("refused (%u): %s", refusal, refusal_in_words(refusal));
+        say_which_refused(words, &snapshot, &log, refusal);
         return STATUS_REFUSED;
     }
     struct played played = {accepted_chip(log.bytes[0]), &log, &answers};
@@ -168,7 +182,7 @@ const struct subcommand run_subcommand = {
             "where it names none.\n"
             "\n"
             "  --end FILE   write the snapshot at the log's end\n"
-            "  --ppm FILE   write a picture, a row for each tick shown\n",
+            "  --ppm FILE   write a picture, a row for each tick shown, if there is one\n",
     .takes = {[OPTION_END] = true, [OPTION_PPM] = true},
     .operands = 2,
     .play = play,

@@ -4,6 +4,7 @@
 
 #include "files.h"
 #include "library.h"
+#include "outputs.h"
 #include "picture.h"
 #include "print.h"
 #include "subcommands.h"

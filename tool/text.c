@@ -54,7 +54,9 @@ static bool read_word(struct text *text, int *c)
 bool read_line(struct text *text)
 {
     int c = getc(text->file);
-    text->line++;
+    /* What is behind the last line's end is no line. */
+    if (c != EOF || text->line == 0)
+        text->line++;
     text->words = 0;
     while (!ends_line(c)) {
         if (c == '#') {

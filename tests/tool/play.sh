@@ -52,3 +52,4 @@ into_closed_pipe() { # command...
     { cat closed.pipe >/dev/null && "$@"; echo "status $?" >&2; } | { exec <&- && echo >closed.pipe; }
     rm closed.pipe
 }
+export -f squares into_closed_pipe

@@ -95,7 +95,7 @@ test-c: $(LIBPALETTE) $(REPLAY) $(TOOL) ## the C header, the installed files and
 test-tool: compare-build ## the palette tool
 	tests/tool/run --driver $(DRIVER)
 
-test-readme: $(LIBPALETTE) $(TOOL) ## README's programs and the paths that the documents name
+test-readme: $(LIBPALETTE) $(REPLAY) $(TOOL) ## README's programs and the paths that the documents name
 	tests/readme
 
 test-trace: ## the names in docs/TRACE.md

@@ -9,26 +9,21 @@ static const struct chip *const chips[] = {&tlc34058, &hd153129};
 enum { CHIPS = sizeof chips / sizeof chips[0] };
 
 const char *const kind_words[KINDS] = {
-    [PALETTE_KIND_WRITE] = "write",       [PALETTE_KIND_READ] = "read",
-    [PALETTE_KIND_TICK] = "tick",         [PALETTE_KIND_VERTICAL] = "vertical",
+    [PALETTE_KIND_WRITE] = "write",
+    [PALETTE_KIND_READ] = "read",
+    [PALETTE_KIND_TICK] = "tick",
+    [PALETTE_KIND_VERTICAL] = "vertical",
     [PALETTE_KIND_SAVE] = "save",
 };
 
-const struct chip *chip_numbered(uint8_t number)
+const struct chip *accepted_chip(uint8_t number)
 {
     for (size_t i = 0; i < CHIPS; i++) {
         if (chips[i]->number == number)
             return chips[i];
     }
+    say("chip %u is not known here, only to the library", number);
     return NULL;
-}
-
-const struct chip *accepted_chip(uint8_t number)
-{
-    const struct chip *chip = chip_numbered(number);
-    if (chip == NULL)
-        say("chip %u is not known here, only to the library", number);
-    return chip;
 }
 
 size_t places_of(const struct chip *chip)

@@ -44,11 +44,8 @@ extern const struct chip tlc34058, hd153129;
 /* The words for the kinds of events. */
 extern const char *const kind_words[KINDS];
 
-/* The chip of this number, or NULL. */
-const struct chip *chip_numbered(uint8_t number);
-
-/* The same for a chip that the library has accepted; says so if the tool
- * doesn't know it. */
+/* The chip of a number that the library has accepted; NULL if the tool doesn't
+ * know it, and says so. */
 const struct chip *accepted_chip(uint8_t number);
 
 /* How many places a chip has. */

@@ -87,12 +87,9 @@ static void measure(const struct played *played, size_t *width, size_t *height)
 }
 
 /* Rows of fewer pixels end in black. */
-static bool draw(const struct played *played, struct picture *picture)
+static void draw(const struct played *played, struct picture *picture)
 {
-    size_t width, height, row = 0;
-    measure(played, &width, &height);
-    if (!start_picture(picture, width, height))
-        return false;
+    size_t row = 0;
     for (size_t event = 0; event < event_count(played->log); event++) {
         if (!is_shown_tick(played, event))
             continue;
@@ -101,14 +98,6 @@ static bool draw(const struct played *played, struct picture *picture)
             set_pixel(picture, pixel, row, played->chip, pixel_of(answer, pixel));
         row++;
     }
-    return true;
-}
-
-static bool shows_a_tick(const struct played *played)
-{
-    size_t width, height;
-    measure(played, &width, &height);
-    return height > 0;
 }
 
 /* The picture and the end snapshot, if they are wanted. */
@@ -116,13 +105,15 @@ static bool write_wanted(const struct words *words, const struct played *played)
 {
     struct output outputs[2];
     struct picture picture = {0};
-    size_t count = 0;
+    size_t count = 0, width, height;
     const char *ppm = words->option[OPTION_PPM], *end = words->option[OPTION_END];
-    if (ppm != NULL && !shows_a_tick(played)) {
+    measure(played, &width, &height);
+    if (ppm != NULL && height == 0) {
         say("no tick is shown, so there is no picture");
     } else if (ppm != NULL) {
-        if (!draw(played, &picture))
+        if (!start_picture(&picture, width, height))
             return false;
+        draw(played, &picture);
         outputs[count++] =
             (struct output){.path = ppm, .bytes = picture.bytes, .len = picture.len};
     }

@@ -15,6 +15,8 @@ bool fault(const struct text *text, const char *format, ...)
     return false;
 }
 
+/* A word may be no text at all, or cut inside a character: nothing but ASCII is
+ * shown of it as it is. */
 bool word_fault(const struct text *text, const char *what, const char *word)
 {
     char shown[4 * WORD_ROOM];

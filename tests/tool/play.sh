@@ -1,13 +1,13 @@
-# Plays the sessions of tests/tool/sessions with a build of the tool. tests/tool/run
+# Plays the transcripts of tests/tool/transcripts with a build of the tool. tests/tool/run
 # and tests/seeded-tool source it, behind common.sh; they set `work`, a folder of
 # their own.
 # shellcheck shell=bash
-. tests/session.sh
+. tests/transcript.sh
 unset NO_COLOR COLORTERM
 export TERM=dumb
 umask 022
 
-# The programs that sessions use, for $work/bin.
+# The programs that transcripts use, for $work/bin.
 build_helpers() {
     local program
     # A user who isn't root enters the folder, too.
@@ -19,15 +19,15 @@ build_helpers() {
     done
 }
 
-# One session in a folder of its own, which has the examples.
-play() { # name of the build, session, folder of the build
+# One transcript in a folder of its own, which has the examples.
+play() { # name of the build, transcript, folder of the build
     rm -rf "$work/here"
     mkdir "$work/here"
     ln -s "$root/examples" "$work/here/examples"
-    PATH=$3:$work/bin:$PATH play_session "$1, $(basename "$2" .txt)" "$2" "$work/here" "$work/scratch"
+    PATH=$3:$work/bin:$PATH play_transcript "$1, $(basename "$2" .txt)" "$2" "$work/here" "$work/scratch"
 }
 
-# --- what the sessions use besides ---------------------------------------------
+# --- what the transcripts use besides -------------------------------------------
 
 # The squares of a picture's pixels that aren't black, 16 to a row: row, column,
 # colour. A square of two colours is said to be uneven.

@@ -1,5 +1,5 @@
-# Plays sessions: what is typed, and what is then seen. tests/tool/run and
-# tests/readme source it, behind common.sh.
+# Plays transcripts: what is typed, and what is then seen. tests/tool/play.sh,
+# tests/c/run and tests/readme source it, behind common.sh.
 #
 # | # A comment.
 # | $ palette list - <log
@@ -14,7 +14,7 @@
 need bash timeout diff od sed
 export root=$PWD
 
-# What a command does, as a session has it. One that doesn't end is ended.
+# What a command does, as a transcript has it. One that doesn't end is ended.
 seen() { # folder, command, scratch file
     local status
     (cd "$1" && timeout 60 bash -c "$2") >"$3.out" 2>"$3.err" </dev/null
@@ -25,7 +25,7 @@ seen() { # folder, command, scratch file
     [ "$status" -eq 0 ] || echo "[$status]"
 }
 
-# Plays one command of a session.
+# Plays one command of a transcript.
 play_command() { # name, folder, command, expected, scratch file
     local expected=$'\n'$4
     while [[ $expected == *$'\n\n' ]]; do
@@ -41,8 +41,8 @@ play_command() { # name, folder, command, expected, scratch file
     fi
 }
 
-# Plays a session's commands in a folder.
-play_session() { # name, file, folder, scratch file
+# Plays a transcript's commands in a folder.
+play_transcript() { # name, file, folder, scratch file
     local line command='' expected='' commands=0
     while IFS= read -r line || [ -n "$line" ]; do
         case $line in
@@ -58,7 +58,7 @@ play_session() { # name, file, folder, scratch file
     [ "$commands" -gt 0 ] || fail "$1: no command is played"
 }
 
-# --- what sessions may use besides commands ----------------------------------
+# --- what transcripts may use besides commands --------------------------------
 
 # Bytes from hexadecimal digits, spaces ignored.
 bytes() {

@@ -1,16 +1,17 @@
 //! A second model of two video palette chips: the TLC34058 (chip 1) and the
 //! HD153129 (chip 2), with their snapshots, their logs, the run of a log, the
-//! painting accesses and the printing program's output.
+//! output currents of a chip 1 tick, the painting accesses and the printing
+//! program's output.
 //!
-//! It rests on document 01 (the scope paper, `01-scope.md`) and on the data
-//! sheets of the TLC34058 (source document 000) and the HD153129 (source
-//! document 001) alone, independently of the code that it is compared with.
-//! Where a paper leaves two readings, the one taken is listed in
-//! `docs/MODEL-READINGS.md`.
+//! It rests on document 01 (the scope paper, `01-scope.md`), on Note 1 of
+//! document 02 (`02-change-requests.md`) and on the data sheets of the TLC34058
+//! (source document 000) and the HD153129 (source document 001) alone,
+//! independently of the code that it is compared with. Where a paper leaves two
+//! readings, the one taken is listed in `docs/MODEL-READINGS.md`.
 //!
 //! The names are the data sheets': ADDR0-7 and ADDRa,b, RREG and GREG, read
-//! mask, blink mask, command register CR0-CR7, overlay registers, RS0 and RS1,
-//! CLT, pixel mask register.
+//! mask, blink mask, command register CR0-CR7, overlay registers, IOR, IOG and
+//! IOB, RS0 and RS1, CLT, pixel mask register.
 //!
 //! What a comparison needs:
 //!
@@ -19,6 +20,8 @@
 //! - [`restore`], [`save`], [`save_into`]: snapshots and their refusals
 //! - [`event`]: one event called by itself on a state
 //! - [`run`]: a whole log on byte strings
+//! - [`tick_currents`], [`tick_currents_into`]: a chip 1 tick with its output
+//!   currents, on a state and on byte strings
 //! - [`painting_accesses`]: which events of a log paint
 //! - [`printed`]: what the printing program prints for any input
 
@@ -28,6 +31,7 @@
 mod built;
 mod chip1;
 mod chip2;
+mod currents;
 mod event;
 mod log;
 mod painting;
@@ -40,6 +44,7 @@ mod state;
 pub use built::NotBuilt;
 pub use chip1::Chip1;
 pub use chip2::Chip2;
+pub use currents::{tick_currents, tick_currents_into, Currents, CURRENTS, CURRENTS_OUT_BYTES};
 pub use event::{event, kind, Answer, Operand, ANSWER_BYTES};
 pub use log::{read_log, Event, Log, MOST_EVENTS};
 pub use painting::painting_accesses;

@@ -1,6 +1,7 @@
-//! The refusal table of document 01.
+//! The refusal table of document 01, and the refusal that document 02 adds for
+//! the currents.
 
-/// A refusal, with the number that document 01 gives it.
+/// A refusal, with the number that its document gives it.
 #[derive(Clone, Copy, Debug, PartialEq, Eq)]
 #[repr(u8)]
 pub enum Refusal {
@@ -21,7 +22,7 @@ pub enum Refusal {
     LogChip = 11,
     /// Log's count over 3,000.
     LogCount = 12,
-    /// Log's length not 5 + 9n.
+    /// Log's length not 5 + 9n; operand, lent for its currents, not 8 bytes.
     LogLength = 13,
     /// Event kind over 4.
     Kind = 14,
@@ -41,14 +42,16 @@ pub enum Refusal {
     Value = 25,
     /// Snapshot and log for two chips.
     TwoChips = 26,
-    /// Answer buffer under 18n bytes.
+    /// Answer buffer under 18n bytes; under 48 for an answer and its currents.
     AnswerBuffer = 30,
     /// End buffer under 2,370 bytes.
     EndBuffer = 31,
+    /// Currents asked for a chip other than 1.
+    CurrentsChip = 40,
 }
 
 impl Refusal {
-    /// The number in the column "Returned" of the refusal table.
+    /// The number that is returned or sits in an answer.
     pub fn number(self) -> u8 {
         self as u8
     }

@@ -1,7 +1,8 @@
 //! What the test files share beside the kit: a bench around one state, a run
-//! with its own buffers, and a header that is refused.
+//! with its own buffers, and a header and snapshots that are refused.
 
-use kit::{log_bytes, ANSWER_BYTES, END_BYTES, MOST_EVENTS};
+use kit::{log_bytes, place_count, snapshot_bytes};
+use kit::{ANSWER_BYTES, END_BYTES, MOST_EVENTS, NOT_BUILT};
 use model::{event, kind, run, Answer, Event, Operand, State};
 
 /// One chip on a bench: events go in, answers come out, places can be seen.
@@ -137,4 +138,20 @@ pub fn play(chip: u8, snapshot: &[u8], events: &[Event]) -> Played {
 pub fn header_over_the_limit(chip: u8) -> Vec<u8> {
     let [a, b, c, d] = (MOST_EVENTS as u32 + 1).to_le_bytes();
     vec![chip, a, b, c, d]
+}
+
+/// A snapshot with this fault, 0 for none.
+pub fn snapshot_with(fault: u8, chip: u8) -> Vec<u8> {
+    match fault {
+        20 => vec![chip, 0],
+        21 => vec![NOT_BUILT, 0, 0],
+        22 => {
+            let [low, high] = (place_count(chip) as u16 + 1).to_le_bytes();
+            vec![chip, low, high]
+        }
+        23 => vec![chip, 1, 0],
+        24 => snapshot_bytes(chip, &[(place_count(chip) as u16, 1)]),
+        25 => snapshot_bytes(chip, &[(5, 0)]),
+        _ => snapshot_bytes(chip, &[(5, 9)]),
+    }
 }

@@ -1,8 +1,8 @@
 //! Refusals of a run: the snapshot's, the log's, 26, 30, 31, each alone, in
 //! every combination of groups, and in order inside each group.
 
-use crate::common::header_over_the_limit;
-use kit::{chip_of_round, highest_kind, log_bytes, not_built, place_count, snapshot_bytes};
+use crate::common::{header_over_the_limit, snapshot_with};
+use kit::{chip_of_round, highest_kind, log_bytes, not_built};
 use kit::{read, save, tick, vertical, write, Random, CHIPS, NOT_BUILT};
 use kit::{ANSWER_BYTES, END_BYTES, MOST_EVENTS};
 use model::{kind, read_log, run, Event};
@@ -52,22 +52,6 @@ fn odd_kind(kind: u8) -> Event {
 
 fn odd_operand(kind: u8, operand: [u8; 8]) -> Event {
     Event { kind, operand }
-}
-
-/// A snapshot with this fault, 0 for none.
-fn snapshot_with(fault: u8, chip: u8) -> Vec<u8> {
-    match fault {
-        20 => vec![chip, 0],
-        21 => vec![NOT_BUILT, 0, 0],
-        22 => {
-            let [low, high] = (place_count(chip) as u16 + 1).to_le_bytes();
-            vec![chip, low, high]
-        }
-        23 => vec![chip, 1, 0],
-        24 => snapshot_bytes(chip, &[(place_count(chip) as u16, 1)]),
-        25 => snapshot_bytes(chip, &[(5, 0)]),
-        _ => snapshot_bytes(chip, &[(5, 9)]),
-    }
 }
 
 /// A log of two events with this fault, 0 for none.

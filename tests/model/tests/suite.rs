@@ -3,6 +3,7 @@
 mod common;
 
 mod boundaries;
+mod currents;
 mod demand3;
 mod event_refusals;
 mod hd153129_tables;

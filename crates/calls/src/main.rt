@@ -1,6 +1,6 @@
 // Plays calls on a state, each by itself, from records on standard input, and prints all that comes back: numbers, answers, places, and every byte of a lent buffer.
-// A record starts with its call: 0 event, 1 save, 2 restore. Any other byte there, a room or a length over 4,096, and the input's end end the program; a record that is cut off is played with zeros for what is missing.
-// A state is its chip byte and all places of each chip in the order of their numbers, whatever their values. An event has a state, a kind and 8 operand bytes; a save a state, the room that is lent (2 bytes, low first) and the byte that fills the buffer; a restore the snapshot's length (2 bytes) and its bytes.
+// A record starts with its call: 0 event, 1 save, 2 restore, 3 currents. Any other byte there, a room or a length over 4,096, and the input's end end the program; a record that is cut off is played with zeros for what is missing.
+// A state is its chip byte and all places of each chip in the order of their numbers, whatever their values. An event has a state, a kind and 8 operand bytes; a save a state, the room that is lent (2 bytes, low first) and the byte that fills the buffer; a restore the snapshot's length (2 bytes) and its bytes; currents a state and a tick's 8 operand bytes.
 ghost use mathlib.Core.Path.{_≡_};
 ghost use Prim.Native.Nat.{_≤_};
 ghost use lib.ListN.{length};
@@ -63,6 +63,18 @@ fn print_chip(chip: Chip) {
 
 fn print_answer(answer: [u8; event::ANSWER_BYTES]) {
     print_digits(&answer);
+    end_line();
+}
+
+// The answer, and behind it each current in decimal.
+fn print_ticked(answer: [u8; event::ANSWER_BYTES], currents: [u16; currents::CURRENTS]) {
+    print_digits(&answer);
+    let mut i: usize = 0;
+    while i < currents::CURRENTS {
+        io::write_all(STDOUT_FILENO, b" ");
+        io::print_decimal(STDOUT_FILENO, currents[i] as u64);
+        i += 1;
+    }
     end_line();
 }
 
@@ -130,6 +142,18 @@ fn play_restore() -> bool {
     true
 }
 
+// The answer and the currents, and the state that comes back.
+fn play_currents() {
+    let chip = read_chip();
+    let mut operand = [0u8; 8];
+    io::read_full(STDIN_FILENO, &mut operand);
+    let ticked = currents::of_state(chip, operand);
+    let answer = ticked.answer;
+    let given = ticked.currents;
+    print_ticked(answer, given);
+    print_chip(ticked.chip);
+}
+
 // Plays one record; false where there is none.
 fn play_next() -> bool {
     let mut call = [0u8; 1];
@@ -146,6 +170,10 @@ fn play_next() -> bool {
     }
     if call[0] == 2 {
         return play_restore();
+    }
+    if call[0] == 3 {
+        play_currents();
+        return true;
     }
     false
 }

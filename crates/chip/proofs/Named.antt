@@ -33,9 +33,13 @@ module _ (w : Whole) where
       cond-by P (eqb (w .number) facts₁.number) _ _ (λ y. a (eqb-true _ _ y))
       (λ n. cond-by P (eqb (w .number) facts₂.number) _ _ (λ y. b (eqb-true _ _ y)) (λ m. c (eqb-false _ _ n) (eqb-false _ _ m)))
 
--- the fresh chip that a byte names has that number
+-- the named part has the number of the chip byte
+pub named-number : (w : Whole) → numberOf (named w) ≡ w .number
+named-number w = by-number w (λ s. numberOf s ≡ w .number) sym sym (λ a b. refl)
+
+-- and so has the fresh chip that a byte names
 pub fresh-number : (n : ℕ) → numberOf (freshState n) ≡ n
-fresh-number n = by-number (freshWhole n) (λ s. numberOf s ≡ n) sym sym (λ a b. refl)
+fresh-number n = named-number (freshWhole n)
 
 -- built or not, by the chip byte alone
 pub built-same : (w : Whole) → cond (isBuilt (freshState (w .number))) 0 21 ≡ unbuiltRefusal (named w)

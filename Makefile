@@ -2,7 +2,7 @@
 CC ?= cc
 CFLAGS ?= -O2
 WARNINGS = -std=c11 -Wall -Wextra -pedantic -Werror
-LIBPALETTE ?= target/staticlib/libpalette.a
+LIBPALETTE ?= target/lib/libpalette.a
 REPLAY ?= target/bin/replay
 TOOL ?= target/tool/palette
 VERSION = $(shell sed -n 's/^.define PALETTE_VERSION_[A-Z]* //p' include/palette.h | paste -s -d . -)
@@ -47,8 +47,8 @@ quietly = @mkdir -p target && echo "$(1), what the prover says in target/$(2).sa
 program = { { test -f $@ || rm -f target/stamp/$(@F); } && rt check $(@F) && test -f $@ && touch $@; }
 
 lib: $(LIBPALETTE) ## prove and build the static library for C
-target/staticlib/libpalette.a: $(CRATES)
-	$(call quietly,proving and building the library,lib,rt staticlib palette)
+target/lib/libpalette.a: $(CRATES) scripts/library
+	$(call quietly,proving and building the library,lib,scripts/library)
 
 replay: $(REPLAY) ## prove and build the printing program
 target/bin/replay: $(CRATES)

@@ -1,6 +1,7 @@
 /*
  * palette.h: runs a log of events on a model of a video palette chip,
- * the TLC34058 (chip 1) or the HD153129 (chip 2).
+ * the TLC34058 (chip 1) or the HD153129 (chip 2), and gives the output
+ * currents of a TLC34058.
  *
  * Snapshots, logs and answers are byte strings; docs/FORMATS.md describes
  * them. Link with libpalette.a. C99 or later, or C++.
@@ -17,7 +18,7 @@ extern "C" {
 
 /* The version: three numbers for #if, and the text "major.minor.patch". */
 #define PALETTE_VERSION_MAJOR 0
-#define PALETTE_VERSION_MINOR 1
+#define PALETTE_VERSION_MINOR 2
 #define PALETTE_VERSION_PATCH 0
 #define PALETTE_VERSION                                                        \
     PALETTE_VERSION_TEXT(PALETTE_VERSION_MAJOR, PALETTE_VERSION_MINOR,         \
@@ -91,7 +92,38 @@ enum palette_kind {
 /* An answer buffer of this size is enough for every log. */
 #define PALETTE_MOST_ANSWER_BYTES (PALETTE_ANSWER_BYTES * PALETTE_MOST_EVENTS)
 
-/* The two halves of what palette_run returns: the refusal (0 if the run was
+/*
+ * Currents.
+ */
+
+/* The outputs of a TLC34058, in the order in which a pixel's currents stand. */
+enum palette_output {
+    PALETTE_OUTPUT_GREEN = 0,
+    PALETTE_OUTPUT_RED = 1,
+    PALETTE_OUTPUT_BLUE = 2
+};
+
+/* The pixels of a TLC34058's tick, A to E; those past its count, too, have
+ * their currents, which are 0. */
+#define PALETTE_TICK_PIXELS 5
+/* A tick's answer and, behind it, three currents for each pixel, of 2 bytes. */
+#define PALETTE_CURRENTS_BYTES (PALETTE_ANSWER_BYTES + 2 * 3 * PALETTE_TICK_PIXELS)
+/* The current of an output for a pixel, 0 being A, in hundredths of a
+ * milliampere; `out` is what palette_currents has filled. Each argument is
+ * evaluated twice. */
+#define PALETTE_CURRENT(out, pixel, output)                                    \
+    (PALETTE_CURRENT_BYTE(out, pixel, output, 0) +                             \
+     256u * PALETTE_CURRENT_BYTE(out, pixel, output, 1))
+/* Only PALETTE_CURRENT uses this. */
+#define PALETTE_CURRENT_BYTE(out, pixel, output, byte)                         \
+    ((unsigned)(out)[PALETTE_ANSWER_BYTES +                                    \
+                     2 * (3 * (size_t)(pixel) + (size_t)(output)) + (byte)])
+
+/*
+ * Results.
+ */
+
+/* The two halves of what each call returns: the refusal (0 if the call was
  * accepted) and the length of the end snapshot (0 if it was refused). A
  * snapshot has at most PALETTE_END_BYTES bytes, so the halves never mix. */
 #define PALETTE_REFUSAL(result) ((unsigned)((uint64_t)(result) >> 16))
@@ -109,6 +141,10 @@ enum palette_kind {
  * log (10 to 15), then for 26, 30, 31. In each group the smaller number comes
  * first, except that 24 and 25 are looked for together, index by index, and so
  * are 14 and 15: the lowest index decides, and at one index the smaller number.
+ *
+ * Of currents: palette_currents returns the refusal, and no byte of either
+ * buffer was changed. It looks at the snapshot (20 to 25, as a run does), then
+ * for 40, 13, 30, 31.
  */
 enum palette_refusal {
     /* Not refused. */
@@ -133,33 +169,40 @@ enum palette_refusal {
     PALETTE_REFUSED_LOG_CHIP = 11,
     /* Of a run: the log's count n is over PALETTE_MOST_EVENTS. */
     PALETTE_REFUSED_LOG_COUNT = 12,
-    /* Of a run: the log's length isn't PALETTE_LOG_BYTES(n). */
+    /* Of a run: the log's length isn't PALETTE_LOG_BYTES(n). Of currents: the
+     * operand's isn't PALETTE_OPERAND_BYTES. */
     PALETTE_REFUSED_LOG_LENGTH = 13,
     /* Of a run: a kind byte of the log isn't one of enum palette_kind. */
     PALETTE_REFUSED_LOG_KIND = 14,
     /* Of a run: an operand byte that its event doesn't use isn't 0. */
     PALETTE_REFUSED_LOG_UNUSED = 15,
 
-    /* Of a run: the snapshot has under PALETTE_SNAPSHOT_HEADER_BYTES bytes. */
+    /* 20 to 25, of a run and of currents: the snapshot has under
+     * PALETTE_SNAPSHOT_HEADER_BYTES bytes. */
     PALETTE_REFUSED_SNAPSHOT_SHORT = 20,
-    /* Of a run: the snapshot's chip byte isn't one of enum palette_chip. */
+    /* The snapshot's chip byte isn't one of enum palette_chip. */
     PALETTE_REFUSED_SNAPSHOT_CHIP = 21,
-    /* Of a run: the snapshot's count N is over the chip's number of places. */
+    /* The snapshot's count N is over the chip's number of places. */
     PALETTE_REFUSED_SNAPSHOT_COUNT = 22,
-    /* Of a run: the snapshot's length isn't PALETTE_SNAPSHOT_BYTES(N). */
+    /* The snapshot's length isn't PALETTE_SNAPSHOT_BYTES(N). */
     PALETTE_REFUSED_SNAPSHOT_LENGTH = 23,
-    /* Of a run: a place of the snapshot is outside the chip or not above the
-     * place before it. */
+    /* A place of the snapshot is outside the chip or not above the place
+     * before it. */
     PALETTE_REFUSED_SNAPSHOT_PLACE = 24,
-    /* Of a run: a value of the snapshot is 0 or too large for its place. */
+    /* A value of the snapshot is 0 or too large for its place. */
     PALETTE_REFUSED_SNAPSHOT_VALUE = 25,
     /* Of a run: the snapshot and the log are for two chips. */
     PALETTE_REFUSED_TWO_CHIPS = 26,
 
-    /* Of a run: the answer buffer has under PALETTE_ANSWER_BYTES * n bytes. */
+    /* Of a run: the answer buffer has under PALETTE_ANSWER_BYTES * n bytes. Of
+     * currents: `out` has under PALETTE_CURRENTS_BYTES. */
     PALETTE_REFUSED_ANSWER_BUFFER = 30,
-    /* Of a run: the end buffer has under PALETTE_END_BYTES bytes. */
-    PALETTE_REFUSED_END_BUFFER = 31
+    /* Of a run and of currents: the end buffer has under PALETTE_END_BYTES
+     * bytes. */
+    PALETTE_REFUSED_END_BUFFER = 31,
+
+    /* Of currents: the snapshot is of another chip than a TLC34058. */
+    PALETTE_REFUSED_CURRENTS_CHIP = 40
 };
 
 /*
@@ -184,6 +227,27 @@ uint64_t palette_run(const uint8_t *snapshot, size_t snapshot_len,
                      const uint8_t *log, size_t log_len,
                      uint8_t *answers, size_t answers_len,
                      uint8_t *end, size_t end_len);
+
+/*
+ * The output currents of a TLC34058 for one tick, by its data sheet's Table 6.
+ *
+ * `operand` has the tick's PALETTE_OPERAND_BYTES bytes, as in a log. The tick's
+ * answer fills the first PALETTE_ANSWER_BYTES bytes of `out`, and the currents,
+ * in hundredths of a milliampere, the rest of its first PALETTE_CURRENTS_BYTES:
+ * green, red and blue of pixel A, then of B, up to E, each of 2 bytes, the low
+ * one first; PALETTE_CURRENT reads one. Pixels past the tick's count have 0. If
+ * the chip refuses the tick (PALETTE_REFUSED_UNDEFINED_BITS in byte 0 of the
+ * answer), every current is 0. The snapshot of the chip after the tick starts
+ * `end`. Bytes past either don't change, and a refused call changes no byte.
+ *
+ * Returns 65,536 * refusal + length of the end snapshot, as palette_run does,
+ * and asks the same of its byte strings; `snapshot` and `operand` are only
+ * read.
+ */
+uint64_t palette_currents(const uint8_t *snapshot, size_t snapshot_len,
+                          const uint8_t *operand, size_t operand_len,
+                          uint8_t *out, size_t out_len,
+                          uint8_t *end, size_t end_len);
 
 #ifdef __cplusplus
 }

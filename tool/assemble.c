@@ -50,33 +50,10 @@ static bool add_read(const struct text *text, struct draft *draft)
            add_event(text, draft, PALETTE_KIND_READ, operand);
 }
 
-/* How many words a chip's tick has, its first one too. */
-static size_t tick_words(const struct chip *chip)
-{
-    size_t words = 1;
-    for (size_t i = 0; i < chip->tick_fields; i++)
-        words += chip->tick[i].word != NULL ? 2 : 1;
-    return words;
-}
-
 static bool add_tick(const struct text *text, struct draft *draft)
 {
-    uint8_t operand[PALETTE_OPERAND_BYTES] = {0};
-    size_t next = 1;
-    if (!has_words(text, tick_words(draft->chip)))
-        return false;
-    for (size_t i = 0; i < draft->chip->tick_fields; i++) {
-        const struct field *field = &draft->chip->tick[i];
-        if (field->word != NULL && strcmp(text->word[next], field->word) != 0) {
-            char what[32];
-            snprintf(what, sizeof what, "expected %s, found", field->word);
-            return word_fault(text, what, text->word[next]);
-        }
-        next += field->word != NULL;
-        if (!byte(text, text->word[next++], &operand[field->byte]))
-            return false;
-    }
-    return add_event(text, draft, PALETTE_KIND_TICK, operand);
+    uint8_t operand[PALETTE_OPERAND_BYTES];
+    return tick(text, draft->chip, operand) && add_event(text, draft, PALETTE_KIND_TICK, operand);
 }
 
 _Static_assert(PALETTE_MOST_EVENTS < TOO_LARGE, "no log has so many events");
@@ -221,5 +198,6 @@ const struct subcommand assemble_subcommand = {
             "  --log FILE   write the log to a file, whole or not at all\n",
     .takes = {[OPTION_LOG] = true},
     .operands = 1,
+    .files = 1,
     .play = play,
 };

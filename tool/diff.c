@@ -57,5 +57,6 @@ const struct subcommand diff_subcommand = {
     .help = "Prints the places in which two snapshots differ, by name, A's value and then B's.\n"
             "Of two chips it says that alone. Status 1 if they differ.\n",
     .operands = 2,
+    .files = 2,
     .play = play,
 };

@@ -56,6 +56,22 @@ unsigned log_refusal(const struct log *log)
     return run_log(&fresh, log, &answers);
 }
 
+unsigned tick_currents(const struct snapshot *snapshot, const uint8_t *operand, uint8_t *out)
+{
+    uint8_t end[PALETTE_END_BYTES];
+    return PALETTE_REFUSAL(palette_currents(snapshot->bytes, snapshot->len, operand,
+                                            PALETTE_OPERAND_BYTES, out, PALETTE_CURRENTS_BYTES,
+                                            end, sizeof end));
+}
+
+/* With a tick of zeros. */
+unsigned currents_refusal(const struct snapshot *snapshot)
+{
+    static const uint8_t operand[PALETTE_OPERAND_BYTES] = {0};
+    uint8_t out[PALETTE_CURRENTS_BYTES];
+    return tick_currents(snapshot, operand, out);
+}
+
 size_t event_count(const struct log *log)
 {
     return (log->len - PALETTE_LOG_HEADER_BYTES) / PALETTE_EVENT_BYTES;

@@ -44,6 +44,12 @@ unsigned run_log(const struct snapshot *snapshot, const struct log *log,
 unsigned snapshot_refusal(const struct snapshot *snapshot);
 unsigned log_refusal(const struct log *log);
 
+/* A tick's answer and its currents, on the chip of a snapshot; gives the refusal. */
+unsigned tick_currents(const struct snapshot *snapshot, const uint8_t *operand, uint8_t *out);
+
+/* Whether currents are given for a snapshot, whatever the tick: the refusal. */
+unsigned currents_refusal(const struct snapshot *snapshot);
+
 /* Of an accepted log. */
 size_t event_count(const struct log *log);
 uint8_t kind_of(const struct log *log, size_t event);

@@ -102,5 +102,6 @@ const struct subcommand list_subcommand = {
             "               run has for them\n",
     .takes = {[OPTION_NUMBERS] = true},
     .operands = 1,
+    .files = 1,
     .play = play,
 };

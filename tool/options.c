@@ -76,7 +76,10 @@ bool parse(const struct subcommand *subcommand, char **arguments, struct words *
         say(operands < subcommand->operands ? "a word is missing" : "a word too many");
         return false;
     }
-    if (operands == 2 && is_standard(words->operand[0]) && is_standard(words->operand[1])) {
+    size_t standard = 0;
+    for (size_t i = 0; i < subcommand->files; i++)
+        standard += is_standard(words->operand[i]);
+    if (standard > 1) {
         say("standard input can be read only once");
         return false;
     }

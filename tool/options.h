@@ -29,6 +29,7 @@ struct subcommand {
     const char *help;
     bool takes[OPTIONS]; /* beside --plain and --help */
     size_t operands;
+    size_t files; /* so many of the first operands are files to read */
     int (*play)(const struct words *words);
 };
 

@@ -17,7 +17,8 @@
 #include "subcommands.h"
 
 static const struct subcommand *const subcommands[] = {
-    &run_subcommand, &show_subcommand, &diff_subcommand, &assemble_subcommand, &list_subcommand,
+    &run_subcommand,      &show_subcommand, &diff_subcommand,
+    &assemble_subcommand, &list_subcommand, &currents_subcommand,
 };
 enum { SUBCOMMANDS = sizeof subcommands / sizeof subcommands[0] };
 

@@ -48,6 +48,8 @@ const char *refusal_in_words(unsigned refusal)
         return "the answer buffer is too small";
     case PALETTE_REFUSED_END_BUFFER:
         return "the end buffer is too small";
+    case PALETTE_REFUSED_CURRENTS_CHIP:
+        return "currents are known of a TLC34058 alone";
     }
     return "unknown refusal";
 }

@@ -176,5 +176,6 @@ const struct subcommand run_subcommand = {
             "  --ppm FILE   write a picture, a row for each tick shown, if there is one\n",
     .takes = {[OPTION_END] = true, [OPTION_PPM] = true},
     .operands = 2,
+    .files = 2,
     .play = play,
 };

@@ -82,5 +82,6 @@ const struct subcommand show_subcommand = {
             "  --ppm FILE   write a swatch of all entries, 16 to a row\n",
     .takes = {[OPTION_PPM] = true},
     .operands = 1,
+    .files = 1,
     .play = play,
 };

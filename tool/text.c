@@ -11,7 +11,10 @@ bool fault(const struct text *text, const char *format, ...)
     va_start(arguments, format);
     vsnprintf(what, sizeof what, format, arguments);
     va_end(arguments);
-    say("%s, line %llu: %s", path_in_words(text->path), text->line, what);
+    if (text->file != NULL)
+        say("%s, line %llu: %s", path_in_words(text->path), text->line, what);
+    else
+        say("%s: %s", text->path, what);
     return false;
 }
 
@@ -36,12 +39,19 @@ static bool ends_line(int c)
     return c == '\n' || c == EOF;
 }
 
+static int next_character(struct text *text)
+{
+    if (text->file != NULL)
+        return getc(text->file);
+    return *text->rest != '\0' ? (unsigned char)*text->rest++ : EOF;
+}
+
 /* Reads the word that starts with c; c is then the character behind it. */
 static bool read_word(struct text *text, int *c)
 {
     char more[WORD_ROOM], *word = text->words < MOST_WORDS ? text->word[text->words] : more;
     size_t len = 0;
-    for (; !ends_line(*c) && *c != '#' && !isspace(*c); *c = getc(text->file)) {
+    for (; !ends_line(*c) && *c != '#' && !isspace(*c); *c = next_character(text)) {
         if (*c == '\0')
             return fault(text, "a zero byte: this is not a text");
         word[len++] = (char)*c;
@@ -55,7 +65,7 @@ static bool read_word(struct text *text, int *c)
 
 bool read_line(struct text *text)
 {
-    int c = getc(text->file);
+    int c = next_character(text);
     /* What is behind the last line's end is no line. */
     if (c != EOF || text->line == 0)
         text->line++;
@@ -63,9 +73,9 @@ bool read_line(struct text *text)
     while (!ends_line(c)) {
         if (c == '#') {
             while (!ends_line(c))
-                c = getc(text->file);
+                c = next_character(text);
         } else if (isspace(c)) {
-            c = getc(text->file);
+            c = next_character(text);
         } else if (!read_word(text, &c)) {
             return false;
         }
@@ -135,4 +145,33 @@ bool selector(const struct text *text, const struct chip *chip, const char *word
     if (number_digits(word, &base) == 0)
         return word_fault(text, "no such selector", word);
     return byte(text, word, value);
+}
+
+/* How many words a chip's tick has, its first one too. */
+static size_t tick_words(const struct chip *chip)
+{
+    size_t words = 1;
+    for (size_t i = 0; i < chip->tick_fields; i++)
+        words += chip->tick[i].word != NULL ? 2 : 1;
+    return words;
+}
+
+bool tick(const struct text *text, const struct chip *chip, uint8_t *operand)
+{
+    size_t next = 1;
+    memset(operand, 0, PALETTE_OPERAND_BYTES);
+    if (!has_words(text, tick_words(chip)))
+        return false;
+    for (size_t i = 0; i < chip->tick_fields; i++) {
+        const struct field *field = &chip->tick[i];
+        if (field->word != NULL && strcmp(text->word[next], field->word) != 0) {
+            char what[32];
+            snprintf(what, sizeof what, "expected %s, found", field->word);
+            return word_fault(text, what, text->word[next]);
+        }
+        next += field->word != NULL;
+        if (!byte(text, text->word[next++], &operand[field->byte]))
+            return false;
+    }
+    return true;
 }

@@ -14,8 +14,9 @@
 enum { WORD_ROOM = 32, MOST_WORDS = 12 };
 
 struct text {
-    FILE *file;
-    const char *path;
+    FILE *file;       /* NULL: the text is a word of the command line */
+    const char *rest; /* what is to be read of that word */
+    const char *path; /* the file's, or what the word is called */
     unsigned long long line; /* the number of the line at hand */
     size_t words;            /* how many words it has; the first ones are kept */
     char word[MOST_WORDS][WORD_ROOM];
@@ -43,5 +44,8 @@ bool byte(const struct text *text, const char *word, uint8_t *value);
 /* A selector's name or its number. */
 bool selector(const struct text *text, const struct chip *chip, const char *word,
               uint8_t *value);
+
+/* The operand of a chip's tick, from the words behind the line's first one. */
+bool tick(const struct text *text, const struct chip *chip, uint8_t *operand);
 
 #endif

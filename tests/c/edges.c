@@ -7,7 +7,8 @@
  *
  * The snapshot and the log must be accepted together, and the log must hold an
  * event. They are run whole, then with each shorter length of either, which
- * must be refused.
+ * must be refused. Then the currents of a tick are asked for, whole and with
+ * shorter strings alike; of another chip than a TLC34058 they are refused.
  */
 #define _DEFAULT_SOURCE
 
@@ -20,7 +21,7 @@
 
 #include "palette.h"
 
-enum { STRINGS = 4, SNAPSHOT = 0, LOG, ANSWERS, END };
+enum { STRINGS = 4, SNAPSHOT = 0, LOG, ANSWERS, END, OPERAND = LOG, OUT = ANSWERS };
 
 /* Room for one byte string between two pages that can't be accessed. */
 struct room {
@@ -110,6 +111,41 @@ static unsigned run_all(const struct input *snapshot, const struct input *log, b
     return wrong;
 }
 
+static unsigned currents(const struct input *snapshot, size_t snapshot_len, size_t operand_len,
+                         size_t out_len, size_t end_len, bool behind)
+{
+    static const uint8_t operand[PALETTE_OPERAND_BYTES + 1] = {1, 2, 3, 4, 5, 6, 7, 3};
+    uint64_t result = palette_currents(
+        place_copy(SNAPSHOT, snapshot->bytes, snapshot_len, behind), snapshot_len,
+        place_copy(OPERAND, operand, operand_len, behind), operand_len,
+        place(OUT, out_len, behind), out_len, place(END, end_len, behind), end_len);
+    return PALETTE_REFUSAL(result);
+}
+
+/* The number of calls that were not judged as they should be. */
+static unsigned currents_of_all(const struct input *snapshot, bool behind)
+{
+    const size_t operand = PALETTE_OPERAND_BYTES, out = PALETTE_CURRENTS_BYTES,
+                 end = PALETTE_END_BYTES;
+    bool known = snapshot->bytes[0] == PALETTE_CHIP_TLC34058;
+    unsigned wrong = 0;
+    wrong += currents(snapshot, snapshot->len, operand, out, end, behind) !=
+             (known ? PALETTE_ACCEPTED : PALETTE_REFUSED_CURRENTS_CHIP);
+    wrong += currents(snapshot, snapshot->len, operand, out - 1, end, behind) !=
+             (known ? PALETTE_REFUSED_ANSWER_BUFFER : PALETTE_REFUSED_CURRENTS_CHIP);
+    wrong += currents(snapshot, snapshot->len, operand, out, end - 1, behind) !=
+             (known ? PALETTE_REFUSED_END_BUFFER : PALETTE_REFUSED_CURRENTS_CHIP);
+    for (size_t len = 0; len <= operand + 1; len++)
+        if (len != operand)
+            wrong += currents(snapshot, snapshot->len, len, out, end, behind) !=
+                     (known ? PALETTE_REFUSED_LOG_LENGTH : PALETTE_REFUSED_CURRENTS_CHIP);
+    for (size_t len = 0; len < snapshot->len; len++)
+        wrong += currents(snapshot, len, operand, out, end, behind) !=
+                 (len < PALETTE_SNAPSHOT_HEADER_BYTES ? PALETTE_REFUSED_SNAPSHOT_SHORT
+                                                      : PALETTE_REFUSED_SNAPSHOT_LENGTH);
+    return wrong;
+}
+
 int main(int argc, char **argv)
 {
     static struct input snapshot, log;
@@ -127,7 +163,8 @@ int main(int argc, char **argv)
     rooms[LOG] = make_room(sizeof log.bytes);
     rooms[ANSWERS] = make_room(PALETTE_MOST_ANSWER_BYTES);
     rooms[END] = make_room(PALETTE_END_BYTES);
-    unsigned wrong = run_all(&snapshot, &log, true) + run_all(&snapshot, &log, false);
-    printf("%u runs judged wrongly\n", wrong);
+    unsigned wrong = run_all(&snapshot, &log, true) + run_all(&snapshot, &log, false) +
+                     currents_of_all(&snapshot, true) + currents_of_all(&snapshot, false);
+    printf("%u calls judged wrongly\n", wrong);
     return wrong == 0 ? 0 : 1;
 }

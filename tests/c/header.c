@@ -1,5 +1,5 @@
 /* The header by itself: included twice, its numbers held to document 01's, its
- * function called. Compiled as C99, C11 and C++17; linked with nothing. */
+ * functions called. Compiled as C99, C11 and C++17; linked with nothing. */
 #include "palette.h"
 #include "palette.h"
 
@@ -22,6 +22,8 @@ FACT(events, PALETTE_MOST_EVENTS == 3000);
 FACT(most_log, PALETTE_MOST_LOG_BYTES == 27005);
 FACT(answer, PALETTE_ANSWER_BYTES == 18);
 FACT(answers, PALETTE_MOST_ANSWER_BYTES == 54000);
+FACT(outputs, PALETTE_OUTPUT_GREEN == 0 && PALETTE_OUTPUT_RED == 1 && PALETTE_OUTPUT_BLUE == 2);
+FACT(currents, PALETTE_TICK_PIXELS == 5 && PALETTE_CURRENTS_BYTES == 48);
 
 FACT(accepted, PALETTE_ACCEPTED == 0);
 FACT(in_answers, PALETTE_REFUSED_SELECTOR == 1 && PALETTE_REFUSED_ADDRESS == 2 &&
@@ -36,6 +38,7 @@ FACT(of_snapshots, PALETTE_REFUSED_SNAPSHOT_SHORT == 20 && PALETTE_REFUSED_SNAPS
                        PALETTE_REFUSED_SNAPSHOT_PLACE == 24 &&
                        PALETTE_REFUSED_SNAPSHOT_VALUE == 25 && PALETTE_REFUSED_TWO_CHIPS == 26);
 FACT(of_buffers, PALETTE_REFUSED_ANSWER_BUFFER == 30 && PALETTE_REFUSED_END_BUFFER == 31);
+FACT(of_currents, PALETTE_REFUSED_CURRENTS_CHIP == 40);
 FACT(refusal, PALETTE_REFUSAL(UINT64_C(31) * 65536) == 31 && PALETTE_REFUSAL(2370) == 0);
 FACT(length, PALETTE_LENGTH(2370) == 2370 && PALETTE_LENGTH(UINT64_C(31) * 65536) == 0);
 
@@ -46,7 +49,7 @@ FACT(any_count, sizeof(size_t) < 8 || PALETTE_LOG_BYTES(UINT32_MAX) / 9 == UINT3
  * put beside. */
 #if PALETTE_VERSION_MAJOR < 0 || PALETTE_VERSION_MINOR < 0 || PALETTE_VERSION_PATCH < 0 || \
     PALETTE_END_BYTES != 2370 || PALETTE_MOST_LOG_BYTES != 27005 || \
-    PALETTE_MOST_ANSWER_BYTES != 54000
+    PALETTE_MOST_ANSWER_BYTES != 54000 || PALETTE_CURRENTS_BYTES != 48
 #error "a number of the header"
 #endif
 FACT(version, sizeof "palette " PALETTE_VERSION >= sizeof "palette 0.0.0");
@@ -60,4 +63,17 @@ size_t example(void)
     uint64_t result = palette_run(snapshot, sizeof snapshot, log_bytes, sizeof log_bytes,
                                   NULL, 0, end_buffer, sizeof end_buffer);
     return PALETTE_REFUSAL(result) == PALETTE_ACCEPTED ? PALETTE_LENGTH(result) : 0;
+}
+
+extern const uint8_t operand[PALETTE_OPERAND_BYTES];
+extern uint8_t out[PALETTE_CURRENTS_BYTES];
+unsigned blue_of_pixel_e(void);
+
+unsigned blue_of_pixel_e(void)
+{
+    uint64_t result = palette_currents(snapshot, sizeof snapshot, operand, sizeof operand, out,
+                                       sizeof out, end_buffer, sizeof end_buffer);
+    return PALETTE_REFUSAL(result) == PALETTE_ACCEPTED
+               ? PALETTE_CURRENT(out, PALETTE_TICK_PIXELS - 1, PALETTE_OUTPUT_BLUE)
+               : 0;
 }

@@ -9,7 +9,7 @@
 use std::env;
 use std::path::{Path, PathBuf};
 
-const DEFAULT: &str = "target/staticlib/libpalette.a";
+const DEFAULT: &str = "target/lib/libpalette.a";
 
 fn main() {
     let here = PathBuf::from(env::var_os("CARGO_MANIFEST_DIR").expect("cargo sets it"));

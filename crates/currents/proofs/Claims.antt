@@ -18,7 +18,7 @@ use Rattle.tlc34058.specs.Tick.{undefinedBits, tick}
 use Rattle.chip.specs.Chip.{State, tlc34058, named, valueRefusal, stateRefusal, chip, callRefusal, played}
 use Rattle.chip.proofs.Named.{named-tlc34058, named-number}
 use Rattle.chip.proofs.Shuffled.{refused-stays}
-use Rattle.currents.specs.Currents.{currentsOf, tickOf, unlessTlc34058, otherChip, ticked}
+use Rattle.currents.specs.Currents.{currentCount, currentsOf, tickOf, unlessTlc34058, otherChip, ticked}
 use Rattle.currents.specs.Claims.{Checks, RefusedLeaves}
 use Rattle.currents.proofs.Ticks.{other, own}
 
@@ -69,7 +69,7 @@ checks w o =
 
 -- ---- what a refusal leaves
 
-no-current : (a : Answer) → (refusalIn a ≡ 0 → ⊥) → currentsOf a ≡ replicate 15 0
+no-current : (a : Answer) → (refusalIn a ≡ 0 → ⊥) → currentsOf a ≡ replicate currentCount 0
 no-current (refused n) h = refl
 no-current (gave b) h = absurd (h refl)
 no-current done h = absurd (h refl)

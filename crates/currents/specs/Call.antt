@@ -10,11 +10,11 @@ use Rattle.snapshot.specs.Snapshot.{twoBytes}
 use Rattle.event.specs.Answer.{answerLong, bytesOf}
 use Rattle.event.specs.Event.{Outcome}
 use Rattle.chip.specs.Chip.{State, snapshotRefusal, restore, saved, endRoom}
-use Rattle.currents.specs.Currents.{currentsOf, otherChip, ticked}
+use Rattle.currents.specs.Currents.{currentCount, currentsOf, otherChip, ticked}
 
--- an answer and 15 currents of two bytes
+-- an answer, and currents of two bytes
 abbrev pub outLong : ℕ
-outLong = answerLong + 2 * 15
+outLong = answerLong + 2 * currentCount
 
 -- the snapshot's refusals (20 to 25), then 40; 13 for an operand that isn't 8 bytes long; 30, 31 for the buffers
 unfoldable pub inOrder : ℕ → ℕ → ℕ → ℕ → ℕ → ℕ

@@ -20,16 +20,19 @@ pixel count levels codes i =
     (green levels (getD codes (3 * i + 1) 0) ∷ redOrBlue levels (getD codes (3 * i) 0) ∷ redOrBlue levels (getD codes (3 * i + 2) 0) ∷ [])
     (0 ∷ 0 ∷ 0 ∷ [])
 
--- pixels A to E
+-- three currents for each of pixels A to E
+abbrev pub currentCount : ℕ
+currentCount = 15
+
 abbrev pub pixels : ℕ → ℕ → List ℕ → List ℕ
 pixels count levels codes = pixel count levels codes 0 ++ (pixel count levels codes 1 ++ (pixel count levels codes 2 ++ (pixel count levels codes 3 ++ pixel count levels codes 4)))
 
--- the 15 currents beside what a tick shows; every current 0 beside a refusal
+-- the currents beside what a tick shows; every current 0 beside any other answer, a refusal among them
 abbrev pub currentsOf : Answer → List ℕ
 currentsOf (showed count levels codes) = pixels count levels codes
-currentsOf (refused n) = replicate 15 0
-currentsOf (gave b) = replicate 15 0
-currentsOf done = replicate 15 0
+currentsOf (refused n) = replicate currentCount 0
+currentsOf (gave b) = replicate currentCount 0
+currentsOf done = replicate currentCount 0
 
 -- ---- the call
 

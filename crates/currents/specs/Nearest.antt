@@ -6,15 +6,15 @@ use mathlib.Core.List.{List, [], _∷_}
 use lib.Dec.{leb, eqb}
 use lib.ListN.{length}
 
--- half a step is added before the rest is dropped
+-- half a step is added before the rest is dropped; a step is 1
 unfoldable pub nearest : ℕ → ℕ → ℕ
 nearest span code = (2 * (code * span) + 255) / 510
 
--- how far a number is from code × span / 255, in 255ths of a step
+-- how far a number is from code × span / 255, in 255ths
 abbrev pub distance : ℕ → ℕ → ℕ → ℕ
 distance span code n = (255 * n - code * span) + (code * span - 255 * n)
 
--- the rule: an error of at most half a step, and no other number is as near
+-- the nearness rule: an error of at most half a step, and no other number is as near
 pub record IsNearest (span code n : ℕ) : Type 0 where
   pub half : 2 * distance span code n ≤ 255
   pub alone : (other : ℕ) → (other ≡ n → ⊥) → distance span code n < distance span code other

@@ -1,8 +1,10 @@
-//! One case: a snapshot, a log and two buffers, run by the library and by the
-//! second model.
+//! One case of the run: a snapshot, a log and two buffers.
 
-use crate::library::{self, difference, in_words, Call, Outcome};
-use kit::{hexadecimal, Random};
+use crate::compared::{pattern, Compared, Lending};
+use crate::library::{Call, Outcome};
+use crate::report::{Shown, Table, RUNS};
+use crate::shrink;
+use kit::Random;
 use model::{ANSWER_BYTES, END_BUFFER_BYTES, MOST_EVENTS};
 
 /// The numbers of a run's byte strings that are written.
@@ -33,46 +35,49 @@ impl Case {
             null_if_empty: random.one_in(2),
         }
     }
+}
 
-    /// The pattern that a buffer holds before the run.
-    fn pattern(&self, len: usize, salt: u64) -> Vec<u8> {
-        Random::seeded(self.layout ^ salt).bytes(len)
+impl Compared for Case {
+    const CALL: Call = Call::Run;
+
+    fn table() -> &'static Table {
+        &RUNS
     }
 
-    pub fn run_library(&self) -> Outcome {
-        let answers = self.pattern(self.answers_len, 1);
-        let end = self.pattern(self.end_len, 2);
-        let strings = [&self.snapshot[..], &self.log, &answers, &end];
-        library::call(Call::Run, &strings, self.layout, self.null_if_empty)
+    fn model(strings: &mut [Vec<u8>]) -> u64 {
+        let [snapshot, log, answers, end] = strings else {
+            panic!("a run has four byte strings");
+        };
+        model::run(snapshot, log, answers, end)
     }
 
-    pub fn run_model(&self) -> Outcome {
-        let mut answers = self.pattern(self.answers_len, 1);
-        let mut end = self.pattern(self.end_len, 2);
-        let result = model::run(&self.snapshot, &self.log, &mut answers, &mut end);
-        Outcome {
-            result,
-            strings: vec![self.snapshot.clone(), self.log.clone(), answers, end],
-            trespass: None,
+    fn lending(&self) -> Lending {
+        Lending {
+            strings: vec![
+                self.snapshot.clone(),
+                self.log.clone(),
+                pattern(self.layout, 1, self.answers_len),
+                pattern(self.layout, 2, self.end_len),
+            ],
+            layout: self.layout,
+            null_if_empty: self.null_if_empty,
         }
     }
 
-    /// What both gave, or what differs.
-    pub fn agreed(&self) -> Result<Outcome, String> {
-        let library = self.run_library();
-        match difference(Call::Run, &library, &self.run_model()) {
-            None => Ok(library),
-            Some(difference) => Err(difference),
+    /// The refusal that is returned, and those in the answers.
+    fn shown(&self, agreed: &Outcome) -> Vec<Shown> {
+        let mut shown = vec![(agreed.result >> 16, 0)];
+        if agreed.result >> 16 == 0 {
+            let answers = agreed.answers().chunks(ANSWER_BYTES);
+            let played = answers.take(claimed_count(&self.log));
+            let refused = played.filter(|answer| answer[0] != 0);
+            shown.extend(refused.map(|answer| (answer[0].into(), 0)));
         }
+        shown
     }
 
-    /// The bytes of its inputs.
-    pub fn size(&self) -> usize {
-        self.snapshot.len() + self.log.len()
-    }
-
-    pub fn differs(&self) -> bool {
-        self.agreed().is_err()
+    fn shrunk(&self, tries: &mut usize) -> Case {
+        shrink::shrunk(self, tries, &mut |case| case.differs())
     }
 }
 
@@ -98,26 +103,4 @@ pub fn claimed_count(log: &[u8]) -> usize {
         }
         _ => 0,
     }
-}
-
-/// The case as a person can replay it, and what each side made of it.
-pub fn described(case: &Case) -> String {
-    let (library, model) = (case.run_library(), case.run_model());
-    let shown = |bytes: &[u8]| hexadecimal(&bytes[..bytes.len().min(90)]);
-    format!(
-        "  snapshot {}\n  log {}\n  answer buffer {} bytes, end buffer {} bytes, layout {:#x}{}\n  \
-         library: {}\n    answers {}\n    end {}\n  model: {}\n    answers {}\n    end {}\n",
-        hexadecimal(&case.snapshot),
-        hexadecimal(&case.log),
-        case.answers_len,
-        case.end_len,
-        case.layout,
-        if case.null_if_empty { ", null if empty" } else { "" },
-        in_words(library.result),
-        shown(library.answers()),
-        shown(library.end()),
-        in_words(model.result),
-        shown(model.answers()),
-        shown(model.end()),
-    )
 }

@@ -1,26 +1,15 @@
-//! The classes of random cases. Each makes one case; the case decides nothing
-//! about what is right, the model does.
+//! The classes of runs. Each makes cases; a case decides nothing about what is
+//! right, the model does.
 
 use crate::case::Case;
+use crate::compared::{class, Class, Sweep};
 use crate::damage::{damage_length, damaged_log, damaged_snapshot};
 use crate::damage::{several_faults, two_indexed_faults, LOG_FAULTS, SNAPSHOT_FAULTS};
 use kit::{address_place, largest, log_bytes, nonzero, place_count, snapshot_bytes};
 use kit::{c, read, save, tick, vertical, write, Random, CHIPS};
 use model::{Event, END_BUFFER_BYTES, MOST_EVENTS};
 
-/// A class of random cases.
-pub struct Class {
-    pub name: &'static str,
-    /// Cases in a round.
-    pub cases: usize,
-    pub make: fn(&mut Random) -> Case,
-}
-
-const fn class(name: &'static str, cases: usize, make: fn(&mut Random) -> Case) -> Class {
-    Class { name, cases, make }
-}
-
-pub const RANDOM: &[Class] = &[
+pub const RANDOM: &[Class<Case>] = &[
     class("logs, chip 1", 700, |random| any_log(random, 1)),
     class("logs, chip 2", 700, |random| any_log(random, 2)),
     class("one event on any state", 3000, one_event),
@@ -221,13 +210,7 @@ pub fn scramble(random: &mut Random, bytes: &mut Vec<u8>) {
     }
 }
 
-/// Cases that are all tried, once: every byte value in its place.
-pub struct Sweep {
-    pub name: &'static str,
-    pub cases: fn(&mut Random) -> Vec<Case>,
-}
-
-pub const SWEEPS: &[Sweep] = &[
+pub const SWEEPS: &[Sweep<Case>] = &[
     Sweep {
         name: "every selector, written and read",
         cases: every_selector,
@@ -255,7 +238,7 @@ pub const SWEEPS: &[Sweep] = &[
 ];
 
 /// A state with something to see everywhere.
-fn lively(random: &mut Random, chip: u8, address: u8, position: u8) -> Vec<u8> {
+pub fn lively(random: &mut Random, chip: u8, address: u8, position: u8) -> Vec<u8> {
     let mut places: Vec<u8> = (0..place_count(chip))
         .map(|place| random.up_to(largest(chip, place)))
         .collect();
@@ -329,6 +312,16 @@ fn every_kind_and_level(random: &mut Random) -> Vec<Case> {
 
 fn every_place(random: &mut Random) -> Vec<Case> {
     let mut cases = Vec::new();
+    for snapshot in places_alone() {
+        let log = log_bytes(snapshot[0], &[save()]);
+        cases.push(Case::exact(snapshot, log, random));
+    }
+    cases
+}
+
+/// A snapshot of each place by itself with its largest value, one more and 0.
+pub fn places_alone() -> Vec<Vec<u8>> {
+    let mut snapshots = Vec::new();
     for chip in CHIPS {
         let count = place_count(chip);
         // The place behind the last one is outside the chip.
@@ -339,13 +332,11 @@ fn every_place(random: &mut Random) -> Vec<Case> {
                 255
             };
             for value in [0, 1, most, most.saturating_add(1), 255] {
-                let snapshot = snapshot_bytes(chip, &[(place as u16, value)]);
-                let log = log_bytes(chip, &[save()]);
-                cases.push(Case::exact(snapshot, log, random));
+                snapshots.push(snapshot_bytes(chip, &[(place as u16, value)]));
             }
         }
     }
-    cases
+    snapshots
 }
 
 fn every_chip_byte(random: &mut Random) -> Vec<Case> {

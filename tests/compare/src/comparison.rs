@@ -4,16 +4,15 @@
 use crate::calls::classes as calls;
 use crate::calls::drive::{self, Batch};
 use crate::calls::record::{Record, TABLES};
-use crate::case::{claimed_count, described, Case};
-use crate::classes::{Class, Sweep, RANDOM, SWEEPS};
-use crate::library::{lacks, Call, Outcome};
+use crate::classes as runs;
+use crate::compared::{Class, Compared, Sweep};
+use crate::currents::classes as currents;
+use crate::library::{lacks, Call};
 use crate::replay::{self, Input, INPUTS};
-use crate::report::{Failure, Report, Subject, RUNS};
+use crate::report::{Failure, Report, Subject, Table, CURRENTS, RUNS};
 use crate::sheets::{Sheet, SHEETS};
-use crate::shrink;
 use crate::shuffle::{Shuffle, SHUFFLES};
 use kit::{hexadecimal, Random};
-use model::ANSWER_BYTES;
 use std::path::{Path, PathBuf};
 
 /// Tries that may be spent on making one failing case small.
@@ -73,6 +72,13 @@ impl Comparison {
         call.is_there()
     }
 
+    /// What a call must have shown, unless the library may lack it and does.
+    fn expect_outcomes(&mut self, call: Call, table: &'static Table) {
+        if call.is_there() || !self.may_lack {
+            self.report.expect_outcomes(table);
+        }
+    }
+
     /// The program that a class plays, which its option must have named.
     fn program<'a>(
         &mut self,
@@ -106,48 +112,35 @@ impl Comparison {
     }
 
     /// One case: library and model must agree on everything.
-    fn compare(&mut self, name: &'static str, case: &Case) {
+    fn compare<C: Compared>(&mut self, name: &'static str, case: &C) {
         match case.agreed() {
             Ok(outcome) => {
                 self.report.checked(name);
-                self.count_refusals(&outcome, claimed_count(&case.log));
+                for shown in case.shown(&outcome) {
+                    self.report.count(C::table(), shown);
+                }
             }
             Err(_) => self.differs(name, case),
         }
     }
 
-    /// Counts the refusals that an agreed run shows.
-    fn count_refusals(&mut self, outcome: &Outcome, events: usize) {
-        let refusal = outcome.result >> 16;
-        self.report.count(&RUNS, (refusal, 0));
-        if refusal == 0 {
-            for answer in outcome.answers().chunks(ANSWER_BYTES).take(events) {
-                if answer[0] != 0 {
-                    self.report.count(&RUNS, (answer[0].into(), 0));
-                }
-            }
-        }
-    }
-
-    fn differs(&mut self, name: &'static str, case: &Case) {
-        let small = self.shrunk(TRIES_FOR_ONE, |tries| {
-            shrink::shrunk(case, tries, &mut |case| case.differs())
-        });
+    fn differs<C: Compared>(&mut self, name: &'static str, case: &C) {
+        let small = self.shrunk(TRIES_FOR_ONE, |tries| case.shrunk(tries));
         let what = small.agreed().err().unwrap_or_default();
         self.failed(name, what, &small);
     }
 
-    fn failed(&mut self, name: &'static str, what: String, case: &Case) {
+    fn failed<C: Compared>(&mut self, name: &'static str, what: String, case: &C) {
         let failure = Failure {
             what,
             size: case.size(),
-            described: described(case),
+            described: case.described(),
         };
-        self.report.failed(name, Subject::Library, failure);
+        self.report.failed(name, Subject::Library(C::CALL), failure);
     }
 
-    fn random_class(&mut self, class: &Class, round: u64) {
-        if !self.begins(class.name, Call::Run) {
+    fn random_class<C: Compared>(&mut self, class: &Class<C>, round: u64) {
+        if !self.begins(class.name, C::CALL) {
             return;
         }
         let mut random = self.random(class.name, round);
@@ -159,8 +152,8 @@ impl Comparison {
         }
     }
 
-    fn sweep(&mut self, sweep: &Sweep) {
-        if !self.begins(sweep.name, Call::Run) {
+    fn sweep<C: Compared>(&mut self, sweep: &Sweep<C>) {
+        if !self.begins(sweep.name, C::CALL) {
             return;
         }
         let mut random = self.random(sweep.name, 0);
@@ -221,7 +214,8 @@ impl Comparison {
                         size: small.size(),
                         described: small.described(),
                     };
-                    self.report.failed(shuffle.name, Subject::Library, failure);
+                    let subject = Subject::Library(Call::Run);
+                    self.report.failed(shuffle.name, subject, failure);
                 }
             }
         }
@@ -327,13 +321,15 @@ impl Comparison {
 
     /// Everything that is tried once.
     pub fn once(&mut self, programs: &Programs) {
-        if Call::Run.is_there() || !self.may_lack {
-            self.report.expect_outcomes(&RUNS);
-        }
+        self.expect_outcomes(Call::Run, &RUNS);
+        self.expect_outcomes(Call::Currents, &CURRENTS);
         for sheet in SHEETS {
             self.sheet(sheet);
         }
-        for sweep in SWEEPS {
+        for sweep in runs::SWEEPS {
+            self.sweep(sweep);
+        }
+        for sweep in currents::SWEEPS {
             self.sweep(sweep);
         }
         for input in INPUTS {
@@ -351,7 +347,10 @@ impl Comparison {
 
     /// Everything that is tried anew in each round.
     pub fn round(&mut self, programs: &Programs, round: u64) {
-        for class in RANDOM {
+        for class in runs::RANDOM {
+            self.random_class(class, round);
+        }
+        for class in currents::RANDOM {
             self.random_class(class, round);
         }
         for shuffle in SHUFFLES {

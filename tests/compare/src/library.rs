@@ -20,7 +20,7 @@ pub enum Lent {
 /// is null then.
 macro_rules! calls {
     ($($call:ident = $name:ident($($lent:ident $string:literal),+),)+) => {
-        #[derive(Clone, Copy, Debug, PartialEq, Eq)]
+        #[derive(Clone, Copy, Debug, PartialEq, Eq, PartialOrd, Ord)]
         pub enum Call { $($call,)+ }
 
         impl Call {
@@ -53,6 +53,8 @@ macro_rules! calls {
 
 calls! {
     Run = palette_run(Read "snapshot", Read "log", Write "answer buffer", Write "end buffer"),
+    Currents =
+        palette_currents(Read "snapshot", Read "operand", Write "out buffer", Write "end buffer"),
 }
 
 type Address = Option<unsafe extern "C" fn()>;

@@ -1,5 +1,6 @@
 //! Counts for each class and for each refusal, and the verdict.
 
+use crate::library::Call;
 use model::Refusal;
 use std::collections::BTreeMap;
 
@@ -73,6 +74,66 @@ pub static RUNS: Table = Table {
     ],
 };
 
+/// The currents: 20 to 25, 40, 13, 30, 31, then 4 in the answer, each before
+/// each later one. The faults of a snapshot count as one check.
+pub static CURRENTS: Table = Table {
+    title: "currents",
+    rows: &[
+        ACCEPTED,
+        row(Refusal::SnapshotShort, "snapshot under 3 bytes"),
+        row(Refusal::SnapshotChip, "snapshot's chip"),
+        row(Refusal::SnapshotCount, "snapshot's count"),
+        row(Refusal::SnapshotLength, "snapshot's length"),
+        row(Refusal::Place, "place"),
+        row(Refusal::Value, "value"),
+        row(Refusal::CurrentsChip, "another chip"),
+        row(Refusal::LogLength, "operand's length"),
+        row(Refusal::AnswerBuffer, "out buffer"),
+        row(Refusal::EndBuffer, "end buffer"),
+        row(Refusal::TickBits, "in the answer: tick bits"),
+        before(Refusal::SnapshotShort, Refusal::CurrentsChip),
+        before(Refusal::SnapshotShort, Refusal::LogLength),
+        before(Refusal::SnapshotShort, Refusal::AnswerBuffer),
+        before(Refusal::SnapshotShort, Refusal::EndBuffer),
+        before(Refusal::SnapshotShort, Refusal::TickBits),
+        before(Refusal::SnapshotChip, Refusal::CurrentsChip),
+        before(Refusal::SnapshotChip, Refusal::LogLength),
+        before(Refusal::SnapshotChip, Refusal::AnswerBuffer),
+        before(Refusal::SnapshotChip, Refusal::EndBuffer),
+        before(Refusal::SnapshotChip, Refusal::TickBits),
+        before(Refusal::SnapshotCount, Refusal::CurrentsChip),
+        before(Refusal::SnapshotCount, Refusal::LogLength),
+        before(Refusal::SnapshotCount, Refusal::AnswerBuffer),
+        before(Refusal::SnapshotCount, Refusal::EndBuffer),
+        before(Refusal::SnapshotCount, Refusal::TickBits),
+        before(Refusal::SnapshotLength, Refusal::CurrentsChip),
+        before(Refusal::SnapshotLength, Refusal::LogLength),
+        before(Refusal::SnapshotLength, Refusal::AnswerBuffer),
+        before(Refusal::SnapshotLength, Refusal::EndBuffer),
+        before(Refusal::SnapshotLength, Refusal::TickBits),
+        before(Refusal::Place, Refusal::CurrentsChip),
+        before(Refusal::Place, Refusal::LogLength),
+        before(Refusal::Place, Refusal::AnswerBuffer),
+        before(Refusal::Place, Refusal::EndBuffer),
+        before(Refusal::Place, Refusal::TickBits),
+        before(Refusal::Value, Refusal::CurrentsChip),
+        before(Refusal::Value, Refusal::LogLength),
+        before(Refusal::Value, Refusal::AnswerBuffer),
+        before(Refusal::Value, Refusal::EndBuffer),
+        before(Refusal::Value, Refusal::TickBits),
+        before(Refusal::CurrentsChip, Refusal::LogLength),
+        before(Refusal::CurrentsChip, Refusal::AnswerBuffer),
+        before(Refusal::CurrentsChip, Refusal::EndBuffer),
+        before(Refusal::CurrentsChip, Refusal::TickBits),
+        before(Refusal::LogLength, Refusal::AnswerBuffer),
+        before(Refusal::LogLength, Refusal::EndBuffer),
+        before(Refusal::LogLength, Refusal::TickBits),
+        before(Refusal::AnswerBuffer, Refusal::EndBuffer),
+        before(Refusal::AnswerBuffer, Refusal::TickBits),
+        before(Refusal::EndBuffer, Refusal::TickBits),
+    ],
+};
+
 /// One class: how many cases were checked, and what became of it.
 struct Line {
     name: &'static str,
@@ -84,8 +145,8 @@ struct Line {
 /// What a failing case is an input of.
 #[derive(Clone, Copy, PartialEq, Eq, PartialOrd, Ord)]
 pub enum Subject {
-    /// The library.
-    Library,
+    /// A call of the library.
+    Library(Call),
     /// The printing program.
     Replay,
     /// The program that plays calls on a state.

@@ -2,6 +2,7 @@
 //! answers and end snapshots worked out by hand from the papers.
 
 use crate::case::Case;
+use crate::compared::Compared;
 use kit::{log_bytes, read, save, snapshot_bytes, tick, vertical, write, Random};
 use model::{Event, ANSWER_BYTES};
 

@@ -4,11 +4,34 @@
 use crate::case::Case;
 use model::ANSWER_BYTES;
 
+/// Tries a candidate, and takes it for the best case if it still fails.
+pub type Attempt<'a, C> = dyn FnMut(C, &mut C) -> bool + 'a;
+
+/// A byte string of a case.
+type Part<C> = fn(&mut C) -> &mut Vec<u8>;
+
 /// A smaller case for which `fails` still holds, found in at most `tries`
 /// tries, which are taken off.
 pub fn shrunk(case: &Case, tries: &mut usize, fails: &mut dyn FnMut(&Case) -> bool) -> Case {
+    search(case, tries, fails, size, |best, attempt| {
+        fewer_events(best, attempt);
+        fewer_places(best, attempt, |case| &mut case.snapshot);
+        plainer_bytes(best, attempt);
+        plainer_buffers(best, attempt);
+    })
+}
+
+/// Makes a case smaller by `steps`, again and again until they leave its size
+/// as it is.
+pub fn search<C: Clone, S: PartialEq>(
+    case: &C,
+    tries: &mut usize,
+    fails: &mut dyn FnMut(&C) -> bool,
+    size: fn(&C) -> S,
+    steps: fn(&mut C, &mut Attempt<C>),
+) -> C {
     let mut best = case.clone();
-    let mut try_it = |candidate: Case, best: &mut Case| {
+    let mut try_it = |candidate: C, best: &mut C| {
         if *tries == 0 {
             return false;
         }
@@ -20,27 +43,25 @@ pub fn shrunk(case: &Case, tries: &mut usize, fails: &mut dyn FnMut(&Case) -> bo
         smaller
     };
     loop {
-        let before = best.clone();
-        fewer_events(&mut best, &mut try_it);
-        fewer_places(&mut best, &mut try_it);
-        plainer_bytes(&mut best, &mut try_it);
-        plainer_buffers(&mut best, &mut try_it);
-        if size(&best) == size(&before) {
+        let before = size(&best);
+        steps(&mut best, &mut try_it);
+        if size(&best) == before {
             return best;
         }
     }
 }
 
-type Attempt<'a> = dyn FnMut(Case, &mut Case) -> bool + 'a;
-
 /// What shrinking makes less: lengths, then bytes that aren't 0.
 fn size(case: &Case) -> (usize, usize, usize) {
-    let ones = |bytes: &[u8]| bytes.iter().filter(|&&byte| byte != 0).count();
     (
         case.snapshot.len() + case.log.len(),
-        ones(&case.snapshot) + ones(&case.log),
+        nonzero_bytes(&case.snapshot) + nonzero_bytes(&case.log),
         case.answers_len + case.end_len,
     )
+}
+
+pub fn nonzero_bytes(bytes: &[u8]) -> usize {
+    bytes.iter().filter(|&&byte| byte != 0).count()
 }
 
 /// The number of events, if the log's length fits its count.
@@ -59,11 +80,11 @@ fn pair_count(snapshot: &[u8]) -> Option<usize> {
 
 /// Takes runs of items away, long runs first. `without` builds the case that
 /// lacks items `start..stop`; `count` says how many items there are.
-fn fewer(
-    best: &mut Case,
-    attempt: &mut Attempt,
-    count: fn(&Case) -> Option<usize>,
-    without: fn(&Case, usize, usize) -> Case,
+fn fewer<C>(
+    best: &mut C,
+    attempt: &mut Attempt<C>,
+    count: impl Fn(&mut C) -> Option<usize>,
+    without: impl Fn(&mut C, usize, usize) -> C,
 ) {
     let mut run = count(best).unwrap_or(0);
     while run > 0 {
@@ -79,12 +100,12 @@ fn fewer(
     }
 }
 
-fn fewer_events(best: &mut Case, attempt: &mut Attempt) {
+fn fewer_events(best: &mut Case, attempt: &mut Attempt<Case>) {
     fewer(best, attempt, |case| event_count(&case.log), without_events);
 }
 
 /// The answer buffer keeps its distance from what the events need.
-fn without_events(case: &Case, start: usize, stop: usize) -> Case {
+fn without_events(case: &mut Case, start: usize, stop: usize) -> Case {
     let count = event_count(&case.log).unwrap_or(0);
     let left = count - (stop - start);
     let mut log = vec![case.log[0]];
@@ -102,57 +123,57 @@ fn without_events(case: &Case, start: usize, stop: usize) -> Case {
     }
 }
 
-fn fewer_places(best: &mut Case, attempt: &mut Attempt) {
-    fewer(
-        best,
-        attempt,
-        |case| pair_count(&case.snapshot),
-        without_places,
-    );
+/// Takes places out of a snapshot.
+pub fn fewer_places<C: Clone>(best: &mut C, attempt: &mut Attempt<C>, snapshot: Part<C>) {
+    let count = |case: &mut C| pair_count(snapshot(case));
+    fewer(best, attempt, count, |case, start, stop| {
+        let mut fewer = case.clone();
+        *snapshot(&mut fewer) = without_places(snapshot(case), start, stop);
+        fewer
+    });
 }
 
-fn without_places(case: &Case, start: usize, stop: usize) -> Case {
-    let count = pair_count(&case.snapshot).unwrap_or(0);
+fn without_places(snapshot: &[u8], start: usize, stop: usize) -> Vec<u8> {
+    let count = pair_count(snapshot).unwrap_or(0);
     let left = count - (stop - start);
-    let mut snapshot = vec![case.snapshot[0]];
-    snapshot.extend((left as u16).to_le_bytes());
-    let (numbers, values) = case.snapshot[3..].split_at(2 * count);
-    snapshot.extend(&numbers[..2 * start]);
-    snapshot.extend(&numbers[2 * stop..]);
-    snapshot.extend(&values[..start]);
-    snapshot.extend(&values[stop..]);
-    Case {
-        snapshot,
-        ..case.clone()
-    }
+    let mut fewer = vec![snapshot[0]];
+    fewer.extend((left as u16).to_le_bytes());
+    let (numbers, values) = snapshot[3..].split_at(2 * count);
+    fewer.extend(&numbers[..2 * start]);
+    fewer.extend(&numbers[2 * stop..]);
+    fewer.extend(&values[..start]);
+    fewer.extend(&values[stop..]);
+    fewer
 }
 
 /// Single bytes set to 0 or 1 in short inputs; odd lengths cut from the end.
-fn plainer_bytes(best: &mut Case, attempt: &mut Attempt) {
-    if best.log.len() <= 200 {
-        for at in 5..best.log.len() {
-            plainer_byte(best, attempt, at, |case| &mut case.log);
-        }
-    }
-    if best.snapshot.len() <= 200 {
-        for at in 3..best.snapshot.len() {
-            plainer_byte(best, attempt, at, |case| &mut case.snapshot);
-        }
-    }
+fn plainer_bytes(best: &mut Case, attempt: &mut Attempt<Case>) {
+    plainer(best, attempt, 5, |case| &mut case.log);
+    plainer_snapshot(best, attempt, |case| &mut case.snapshot);
     if event_count(&best.log).is_none() {
         shorter(best, attempt, |case| &mut case.log);
     }
-    if pair_count(&best.snapshot).is_none() {
-        shorter(best, attempt, |case| &mut case.snapshot);
+}
+
+/// The same of a snapshot.
+pub fn plainer_snapshot<C: Clone>(best: &mut C, attempt: &mut Attempt<C>, snapshot: Part<C>) {
+    plainer(best, attempt, 3, snapshot);
+    if pair_count(snapshot(best)).is_none() {
+        shorter(best, attempt, snapshot);
     }
 }
 
-fn plainer_byte(
-    best: &mut Case,
-    attempt: &mut Attempt,
-    at: usize,
-    part: fn(&mut Case) -> &mut Vec<u8>,
-) {
+/// Bytes set to 0 or 1, from this one on, if there are few.
+pub fn plainer<C: Clone>(best: &mut C, attempt: &mut Attempt<C>, from: usize, part: Part<C>) {
+    let len = part(best).len();
+    if len <= 200 {
+        for at in from..len {
+            plainer_byte(best, attempt, at, part);
+        }
+    }
+}
+
+fn plainer_byte<C: Clone>(best: &mut C, attempt: &mut Attempt<C>, at: usize, part: Part<C>) {
     for plain in [0, 1] {
         let mut candidate = best.clone();
         let byte = &mut part(&mut candidate)[at];
@@ -166,7 +187,7 @@ fn plainer_byte(
     }
 }
 
-fn shorter(best: &mut Case, attempt: &mut Attempt, part: fn(&mut Case) -> &mut Vec<u8>) {
+fn shorter<C: Clone>(best: &mut C, attempt: &mut Attempt<C>, part: Part<C>) {
     let mut cut = part(best).len();
     while cut > 0 {
         let mut candidate = best.clone();
@@ -183,7 +204,7 @@ fn shorter(best: &mut Case, attempt: &mut Attempt, part: fn(&mut Case) -> &mut V
 }
 
 /// Buffers of just the size that an accepted run needs.
-fn plainer_buffers(best: &mut Case, attempt: &mut Attempt) {
+fn plainer_buffers(best: &mut Case, attempt: &mut Attempt<Case>) {
     let exact = ANSWER_BYTES * event_count(&best.log).unwrap_or(0);
     if best.answers_len > exact {
         let mut candidate = best.clone();

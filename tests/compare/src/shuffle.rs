@@ -8,6 +8,7 @@
 //! which accesses paint, for that is a matter of the log and not of its run.
 
 use crate::case::Case;
+use crate::compared::Compared;
 use kit::{before_painting, free_shuffle, hexadecimal, log_bytes, painting_shuffle};
 use kit::{is_access, is_display, is_save, is_tick, only, save, with_saves, Random, Sort};
 use model::{painting_accesses, Event, ANSWER_BYTES, END_BUFFER_BYTES, MOST_EVENTS};

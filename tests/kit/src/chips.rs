@@ -1,5 +1,5 @@
-//! The built chips: selectors, places, and which bytes and bits of an operand
-//! they use. Copied from document 01.
+//! The built chips: selectors, places, which bytes and bits of an operand they
+//! use, and which of them has currents. Copied from documents 01 and 02.
 //!
 //! Each table names every chip that it is for. A chip that isn't built has no
 //! row, and asking for it is a fault of the test.
@@ -8,6 +8,9 @@ use model::kind;
 
 /// The chip bytes of the chips that are built.
 pub const CHIPS: [u8; 2] = [1, 2];
+
+/// The chip whose ticks have output currents.
+pub const CURRENTS_CHIP: u8 = 1;
 
 /// A chip byte that no chip has, where one example is wanted.
 pub const NOT_BUILT: u8 = 9;

@@ -2,8 +2,9 @@
 //! random source, tables of the chips, sizes and limits, builders for events,
 //! logs and snapshots, random states and logs, and shuffles.
 //!
-//! Tables, sizes and limits are copied from document 01 and not from the model,
-//! so that the model's tests hold the model to them. Nothing of crates/ is used.
+//! Tables, sizes and limits are copied from documents 01 and 02 and not from the
+//! model, so that the model's tests hold the model to them. Nothing of crates/ is
+//! used.
 
 #![forbid(unsafe_code)]
 
@@ -18,9 +19,10 @@ mod shuffle;
 pub use bytes::{hexadecimal, log_bytes, nonzero, snapshot_bytes};
 pub use chips::{address_place, chip_of_round, highest_kind, largest, not_built};
 pub use chips::{c, p1, p2, rs, undefined_tick_bits, used_bytes, CHIPS, NOT_BUILT};
-pub use chips::{other_chips, place_count};
+pub use chips::{other_chips, place_count, CURRENTS_CHIP};
 pub use events::{is_access, is_display, is_save, is_tick, only, Sort};
 pub use events::{read, save, tick, vertical, write};
 pub use numbers::{ANSWER_BYTES, END_BYTES, EVENT_BYTES, LOG_HEADER_BYTES, MOST_EVENTS};
+pub use numbers::{CURRENTS_BYTES, OPERAND_BYTES};
 pub use random::Random;
 pub use shuffle::{before_painting, free_shuffle, painting_shuffle, riffle, with_saves};

@@ -1,5 +1,5 @@
-//! The sizes and limits of answers, logs and snapshots. Copied from document
-//! 01.
+//! The sizes and limits of answers, logs, snapshots and currents. Copied from
+//! documents 01 and 02.
 
 /// An event's answer.
 pub const ANSWER_BYTES: usize = 18;
@@ -11,3 +11,8 @@ pub const MOST_EVENTS: usize = 3000;
 pub const LOG_HEADER_BYTES: usize = 5;
 /// An event in a log: kind and operand.
 pub const EVENT_BYTES: usize = 9;
+/// The operand alone, which the currents take too.
+pub const OPERAND_BYTES: usize = 8;
+/// A tick's answer, and behind it three currents of 2 bytes for each of pixels
+/// A to E.
+pub const CURRENTS_BYTES: usize = ANSWER_BYTES + 2 * 3 * 5;

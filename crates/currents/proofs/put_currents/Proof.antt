@@ -7,16 +7,17 @@ use lib.Seq.{sets}
 use borrow.Author.Needs.{needs}
 use Rattle.snapshot.specs.Snapshot.{twoBytes}
 use Rattle.event.specs.Answer.{answerLong}
+use Rattle.currents.specs.Currents.{currentCount}
 use Rattle.currents.specs.Call.{outLong}
 use Rattle.currents.proofs.Stores.{leftFrom, put-more, put-all}
 use Rattle.currents.proofs.put_currents.Statement.{statement}
 use Rattle.currents.proofs.put_currents.Tie as tie
 
 abbrev Inv-loop : tie.InvT-loop
-Inv-loop out₀ currents i₀ out i = (i ≤ 15) × (length currents ≡ 15) × (outLong ≤ length out) × (length out ≡ length out₀) × (leftFrom currents out answerLong i ≡ sets out₀ answerLong (twoBytes currents))
+Inv-loop out₀ currents i₀ out i = (i ≤ currentCount) × (length currents ≡ currentCount) × (outLong ≤ length out) × (length out ≡ length out₀) × (leftFrom currents out answerLong i ≡ sets out₀ answerLong (twoBytes currents))
 
 abbrev μ-loop : tie.MeasureT-loop
-μ-loop out₀ currents i₀ out i = 15 - i
+μ-loop out₀ currents i₀ out i = currentCount - i
 
 loop-holds : tie.Need-loop-holds Inv-loop μ-loop
 loop-holds c = search needs

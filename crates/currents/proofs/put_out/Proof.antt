@@ -2,6 +2,7 @@
 use Rattle.currents.proofs.Stores.{two-long, stored-behind}
 use Rattle.snapshot.specs.Snapshot.{twoBytes}
 use Rattle.event.specs.Answer.{answerLong}
+use Rattle.currents.specs.Currents.{currentCount}
 use denote.Ref.{now}
 use lib.Seq.{sets}
 use lib.ListN.{length}
@@ -31,7 +32,7 @@ returns c =
     let pre = c .before .before .before .before .before .before .before .before .before .before .pre in
     let answer = args .t1 in
     let long : length answer ≡ answerLong = search needs in
-    let many : length (args .currents) ≡ 15 = search needs in
+    let many : length (args .currents) ≡ currentCount = search needs in
     put-currents .ensures ∙ ap (λ l. sets l answerLong (twoBytes (args .currents))) (copy .ensures)
     ∙ stored-behind answer (twoBytes (args .currents)) (now (args .out)) answerLong long (omega (arith, two-long (args .currents), pre))
 

@@ -1,12 +1,13 @@
-//! Plays the run blocks of documents and the stored cases of folders through
-//! the library, and their logs through the printing program.
+//! Plays the blocks of documents and the stored cases of folders through the
+//! library, and the logs of runs through the printing program.
 //!
 //! cases --replay PROGRAM FILE.md|FOLDER..
 //!
 //! tests/stored/README.md describes the language. Compared are the returned
 //! number, every byte of both buffers, the bytes around them, the inputs, and
-//! every byte that is printed. Each file or folder must show every refusal.
-//! Prints a line for each case and 'N passed, M failed'.
+//! every byte that is printed. Each file or folder must show every refusal of a
+//! run, and a file every one of the currents too. Prints a line for each case
+//! and 'N passed, M failed'.
 
 use compare::blocks::{self, Block};
 use compare::library::{self, in_words, lacks, Call};
@@ -23,7 +24,13 @@ const REFUSALS: &[u64] = &[
     1, 2, 3, 4, 5, 10, 11, 12, 13, 14, 15, 20, 21, 22, 23, 24, 25, 26, 30, 31,
 ];
 
-/// What the buffers hold before a run. Two runs, so that a byte is noticed
+/// The refusals that currents can show, 4 in their answer.
+const CURRENTS_REFUSALS: &[u64] = &[4, 13, 20, 21, 22, 23, 24, 25, 30, 31, 40];
+
+/// The number of a run's log among its inputs.
+const LOG: usize = 1;
+
+/// What the buffers hold before a call. Two calls, so that a byte is noticed
 /// that changes to, or stays, what the first pattern happens to be.
 const PATTERNS: [u8; 2] = [0xA5, 0x5A];
 
@@ -63,23 +70,39 @@ impl Tally {
             let fault = match &block {
                 Err(fault) => Some(fault.clone()),
                 Ok(block) => {
-                    shown.extend(refusals(block));
+                    shown.extend(block.refusals().into_iter().map(|n| (block.call, n)));
                     self.wrong(block)
                 }
             };
             self.say(&name, fault);
         }
-        let missing: Vec<_> = REFUSALS.iter().filter(|&n| !shown.contains(n)).collect();
+        self.every_refusal(&name, Call::Run, REFUSALS, &shown);
+        // The stored cases are runs.
+        if !path.is_dir() {
+            self.every_refusal(&name, Call::Currents, CURRENTS_REFUSALS, &shown);
+        }
+    }
+
+    fn every_refusal(
+        &mut self,
+        name: &str,
+        call: Call,
+        refusals: &[u64],
+        shown: &BTreeSet<(Call, u64)>,
+    ) {
+        let is_missing = |&&number: &&u64| !shown.contains(&(call, number));
+        let missing: Vec<_> = refusals.iter().filter(is_missing).collect();
         let fault = (!missing.is_empty()).then(|| format!("no case shows {missing:?}"));
-        self.say(&format!("{name}, every refusal"), fault);
+        self.say(&format!("{name}, every refusal of {}", call.name()), fault);
     }
 
     /// What the library and the printing program get wrong, if anything.
     fn wrong(&self, block: &Block) -> Option<String> {
-        let run = (PATTERNS.iter().zip(1..)).find_map(|(&pattern, i)| wrong_run(block, pattern, i));
+        let call =
+            (PATTERNS.iter().zip(1..)).find_map(|(&pattern, i)| wrong_call(block, pattern, i));
         let text = block.printed.as_ref();
         let printed = text.and_then(|text| wrong_print(&self.replay, block, text));
-        let faults: Vec<_> = run.into_iter().chain(printed).collect();
+        let faults: Vec<_> = call.into_iter().chain(printed).collect();
         (!faults.is_empty()).then(|| faults.join("; "))
     }
 }
@@ -117,25 +140,15 @@ fn stored_case(file: &Path) -> Option<Named> {
     Some((short.into(), block))
 }
 
-/// The refusals that a block shows.
-fn refusals(block: &Block) -> impl Iterator<Item = u64> + '_ {
-    let answers = block.answers.chunks(ANSWER_BYTES);
-    [block.refusal]
-        .into_iter()
-        .chain(answers.map(|answer| u64::from(answer[0])))
-}
-
 /// The first thing that the library gets wrong, if anything.
-fn wrong_run(block: &Block, pattern: u8, layout: u64) -> Option<String> {
-    if !Call::Run.is_there() {
-        return Some(lacks(Call::Run));
+fn wrong_call(block: &Block, pattern: u8, layout: u64) -> Option<String> {
+    if !block.call.is_there() {
+        return Some(lacks(block.call));
     }
-    let (answers, end) = (
-        vec![pattern; block.answers_len],
-        vec![pattern; block.end_len],
-    );
-    let strings = [&block.snapshot[..], &block.log, &answers, &end];
-    let outcome = library::call(Call::Run, &strings, layout, layout % 2 == 0);
+    let patterns = block.buffers.iter().map(|buffer| vec![pattern; buffer.len]);
+    let strings: Vec<Vec<u8>> = block.inputs.iter().cloned().chain(patterns).collect();
+    let strings: Vec<&[u8]> = strings.iter().map(Vec::as_slice).collect();
+    let outcome = library::call(block.call, &strings, layout, layout % 2 == 0);
     if let Some(trespass) = outcome.trespass {
         return Some(trespass);
     }
@@ -146,8 +159,9 @@ fn wrong_run(block: &Block, pattern: u8, layout: u64) -> Option<String> {
             in_words(block.returned())
         ));
     }
-    wrong_answer(block, outcome.answers(), pattern)
-        .or_else(|| wrong_end(block, outcome.end(), pattern))
+    let found = outcome.strings.iter().skip(block.inputs.len());
+    let mut numbered = found.enumerate();
+    numbered.find_map(|(number, found)| wrong_buffer(block, number, found, pattern))
 }
 
 /// The first byte that isn't what is right, or, past that, isn't the pattern.
@@ -155,41 +169,40 @@ fn first_wrong(found: &[u8], right: &[u8], pattern: u8) -> Option<usize> {
     (0..found.len()).find(|&i| found[i] != *right.get(i).unwrap_or(&pattern))
 }
 
-fn wrong_answer(block: &Block, found: &[u8], pattern: u8) -> Option<String> {
-    let index = first_wrong(found, &block.answers, pattern)?;
-    if index >= block.answers.len() {
-        return Some(format!(
-            "byte {index} of the answer buffer changed, past the answers"
-        ));
-    }
+/// What is wrong with the buffer of this number, if anything.
+fn wrong_buffer(block: &Block, number: usize, found: &[u8], pattern: u8) -> Option<String> {
+    let right = &block.buffers[number].written;
+    let index = first_wrong(found, right, pattern)?;
+    let (_, name) = block.call.strings()[block.inputs.len() + number];
+    Some(match right.get(index) {
+        None => format!("byte {index} of the {name} changed, past what is written"),
+        Some(_) if block.call == Call::Run && number == 0 => wrong_answer(block, found, index),
+        Some(right) => format!(
+            "{name}, byte {index}: the library gives {:02x}, the case says {right:02x}",
+            found[index]
+        ),
+    })
+}
+
+/// An answer of a run with a wrong byte, which has this number in the buffer.
+fn wrong_answer(block: &Block, found: &[u8], index: usize) -> String {
     let event = index / ANSWER_BYTES;
     let line = match block.event_lines.get(event) {
         Some(line) => format!(" (line {line})"),
         None => String::new(),
     };
     let answer = |all: &[u8]| hexadecimal(all.chunks(ANSWER_BYTES).nth(event).unwrap_or_default());
-    Some(format!(
+    format!(
         "event {event}{line}, answer byte {}: the library gives {}, the case says {}",
         index % ANSWER_BYTES,
         answer(found),
-        answer(&block.answers)
-    ))
-}
-
-fn wrong_end(block: &Block, found: &[u8], pattern: u8) -> Option<String> {
-    let index = first_wrong(found, &block.end, pattern)?;
-    Some(match block.end.get(index) {
-        None => format!("byte {index} of the end buffer changed, past the end snapshot"),
-        Some(right) => format!(
-            "end snapshot, byte {index}: the library gives {:02x}, the case says {right:02x}",
-            found[index]
-        ),
-    })
+        answer(&block.buffers[0].written)
+    )
 }
 
 /// The first thing that the printing program gets wrong, if anything.
 fn wrong_print(program: &Path, block: &Block, text: &str) -> Option<String> {
-    let output = match printed_by(program, &block.log, WHOLE) {
+    let output = match printed_by(program, &block.inputs[LOG], WHOLE) {
         Err(fault) => return Some(fault),
         Ok(output) if output == text.as_bytes() => return None,
         Ok(output) => output,

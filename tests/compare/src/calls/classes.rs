@@ -6,10 +6,11 @@ use crate::calls::faults::{accepted, any, planted, planted_with_unused, spoil, P
 use crate::calls::faults::{OF_THE_CHIP, OF_THE_FORM};
 use crate::calls::record::{Record, Whole, BUFFER_BYTES, CALLS};
 use crate::classes::scramble;
+use crate::currents::classes::codes_at_outputs;
 use crate::damage::{damaged_snapshot, snapshot_with_two_faults, SNAPSHOT_FAULTS};
-use kit::{address_place, highest_kind, largest, nonzero, other_chips, p2, place_count};
-use kit::{read, save, snapshot_bytes, write, Random, CHIPS};
-use model::{Event, Refusal, END_BUFFER_BYTES};
+use kit::{address_place, highest_kind, largest, nonzero, other_chips, p1, p2, place_count};
+use kit::{read, save, snapshot_bytes, write, Random, CHIPS, CURRENTS_CHIP};
+use model::{Event, Operand, Refusal, END_BUFFER_BYTES};
 
 /// A class of random records.
 pub struct Class {
@@ -57,10 +58,22 @@ pub const RANDOM: &[Class] = &[
     class("calls: restores of damaged snapshots", 120, refused_restore),
     class("calls: restores, two faults", 100, two_faults),
     class("calls: restores of any bytes", 60, any_bytes),
+    class("calls: currents on any state", 80, any_currents),
+    class(
+        "calls: currents of ticks that the chip refuses",
+        40,
+        refused_currents,
+    ),
+    class(
+        "calls: currents on values above their largest",
+        60,
+        too_large_currents,
+    ),
+    class("calls: currents on other chips", 80, currents_elsewhere),
 ];
 
 /// Records for a run without proof, which an interpreter plays too: some of each
-/// class, and two sweeps.
+/// class, two sweeps, and a part of a third.
 pub fn samples(random: &mut Random) -> Vec<(String, Vec<Record>)> {
     const RECORDS: usize = 8;
     let mut samples = Vec::new();
@@ -72,6 +85,7 @@ pub fn samples(random: &mut Random) -> Vec<(String, Vec<Record>)> {
     // So few at a time that an interpreter comes to their end.
     const AT_A_TIME: usize = 40;
     for (name, records) in [
+        ("every-code", every_code_shown()),
         ("every-operand-byte", every_operand_byte(random)),
         ("every-selector", every_selector(random)),
     ] {
@@ -238,6 +252,51 @@ fn fitting(mut make: impl FnMut() -> Vec<u8>) -> Record {
     }
 }
 
+fn any_currents(random: &mut Random, _: usize) -> Record {
+    Record::Currents {
+        state: accepted(random, CURRENTS_CHIP),
+        operand: random.tick(CURRENTS_CHIP).operand,
+    }
+}
+
+fn refused_currents(random: &mut Random, _: usize) -> Record {
+    Record::Currents {
+        state: accepted(random, CURRENTS_CHIP),
+        operand: random.odd_tick(CURRENTS_CHIP).operand,
+    }
+}
+
+/// A tick that the chip takes or refuses, in turn.
+fn tick_in_turn(random: &mut Random, number: usize) -> Operand {
+    let event = match number % 2 {
+        0 => random.tick(CURRENTS_CHIP),
+        _ => random.odd_tick(CURRENTS_CHIP),
+    };
+    event.operand
+}
+
+fn too_large_currents(random: &mut Random, number: usize) -> Record {
+    let mut state = accepted(random, CURRENTS_CHIP);
+    spoil(random, CURRENTS_CHIP, state.part(CURRENTS_CHIP));
+    let operand = tick_in_turn(random, number);
+    Record::Currents { state, operand }
+}
+
+/// Chips that are built and that aren't, with and without values above their
+/// largest in the part of the chip that has currents.
+fn currents_elsewhere(random: &mut Random, number: usize) -> Record {
+    let mut state = accepted(random, CURRENTS_CHIP);
+    if random.one_in(2) {
+        spoil(random, CURRENTS_CHIP, state.part(CURRENTS_CHIP));
+    }
+    state.chip = match random.below(2) {
+        0 => random.other_chip(CURRENTS_CHIP),
+        _ => random.chip_not_built(),
+    };
+    let operand = tick_in_turn(random, number);
+    Record::Currents { state, operand }
+}
+
 /// Records that are all tried, once.
 pub struct Sweep {
     pub name: &'static str,
@@ -262,6 +321,10 @@ pub const SWEEPS: &[Sweep] = &[
         batches: |random| vec![Batch::whole(every_selector(random))],
     },
     Sweep {
+        name: "calls: currents, every code at every output",
+        batches: |_| vec![Batch::whole(every_code())],
+    },
+    Sweep {
         name: "calls: every room of a save",
         batches: |random| vec![Batch::whole(every_room(random))],
     },
@@ -275,13 +338,21 @@ pub const SWEEPS: &[Sweep] = &[
     },
 ];
 
-/// A save event, which goes through every place, and a save.
-fn event_and_save(random: &mut Random, state: Whole) -> [Record; 2] {
+/// A save event, which goes through every place, a save, and the currents.
+fn each_call(random: &mut Random, state: Whole) -> [Record; 3] {
     let event = Record::Event {
         state: state.clone(),
         event: save(),
     };
-    [event, save_record(random, state, END_BUFFER_BYTES)]
+    let currents = Record::Currents {
+        state: state.clone(),
+        operand: random.tick(CURRENTS_CHIP).operand,
+    };
+    [
+        event,
+        currents,
+        save_record(random, state, END_BUFFER_BYTES),
+    ]
 }
 
 fn every_place(random: &mut Random) -> Vec<Record> {
@@ -292,7 +363,7 @@ fn every_place(random: &mut Random) -> Vec<Record> {
             for value in [Some(most), most.checked_add(1)].into_iter().flatten() {
                 let mut state = Whole::fresh(chip);
                 state.part(chip)[place] = value;
-                records.extend(event_and_save(random, state));
+                records.extend(each_call(random, state));
             }
         }
     }
@@ -303,7 +374,7 @@ fn every_chip_byte(random: &mut Random) -> Vec<Record> {
     let mut records = Vec::new();
     for chip in 0..=255 {
         let state = Whole::fresh(chip);
-        records.extend(event_and_save(random, state));
+        records.extend(each_call(random, state));
         let snapshot = vec![chip, 0, 0];
         records.push(Record::Restore { snapshot });
     }
@@ -318,23 +389,41 @@ fn full(random: &mut Random, chip: u8) -> Whole {
 }
 
 /// One operand byte set, least and largest, in events of every kind and of some
-/// that no chip has.
+/// that no chip has, and in the currents.
 fn every_operand_byte(random: &mut Random) -> Vec<Record> {
     let mut records = Vec::new();
     for chip in CHIPS {
-        for kind in (0..=highest_kind(chip) + 1).chain([200, 255]) {
-            for (number, value) in (0..8).flat_map(|number| [(number, 1), (number, 255)]) {
-                let mut event = Event {
-                    kind,
-                    operand: [0; 8],
-                };
-                event.operand[number] = value;
+        for (number, value) in (0..8).flat_map(|number| [(number, 1), (number, 255)]) {
+            let mut operand = [0; 8];
+            operand[number] = value;
+            for kind in (0..=highest_kind(chip) + 1).chain([200, 255]) {
+                let event = Event { kind, operand };
                 let state = full(random, chip);
                 records.push(Record::Event { state, event });
             }
+            let state = full(random, chip);
+            records.push(Record::Currents { state, operand });
         }
     }
     records
+}
+
+fn code_record((places, operand): (Vec<u8>, Operand)) -> Record {
+    let mut state = Whole::fresh(CURRENTS_CHIP);
+    *state.part(CURRENTS_CHIP) = places;
+    Record::Currents { state, operand }
+}
+
+fn every_code() -> Vec<Record> {
+    codes_at_outputs().into_iter().map(code_record).collect()
+}
+
+/// As few ticks as show every code in each of green, red and blue: codes of one
+/// colour are 51 apart.
+fn every_code_shown() -> Vec<Record> {
+    let ticks = codes_at_outputs().into_iter();
+    let five = ticks.filter(|(places, operand)| places[p1::COMMAND] == 0xC0 && operand[7] == 3);
+    five.take(52).map(code_record).collect()
 }
 
 /// Writes and reads at each position, chip 2 set for writing and for reading.
@@ -410,4 +499,23 @@ fn in_pieces(random: &mut Random) -> Vec<Batch> {
             ..Batch::whole(some_records(random, 11))
         })
         .collect()
+}
+
+#[cfg(test)]
+mod tests {
+    use super::every_code_shown;
+    use std::collections::BTreeSet;
+
+    #[test]
+    fn the_sample_of_codes_has_each_in_each_colour() {
+        let mut seen = BTreeSet::new();
+        for record in every_code_shown() {
+            // Digits of the answer's codes: red, green, blue of each pixel.
+            let digits = record.printed().into_bytes()[6..36].to_vec();
+            for (output, code) in digits.chunks(2).enumerate() {
+                seen.insert((output % 3, code.to_vec()));
+            }
+        }
+        assert_eq!(seen.len(), 3 * 256);
+    }
 }

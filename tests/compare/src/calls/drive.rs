@@ -68,27 +68,23 @@ impl Batch {
 /// found in at most `tries` tries, which are taken off.
 pub fn shrunk(program: &Path, record: &Record, tries: &mut usize) -> Record {
     let mut best = record.clone();
-    let states = match &best {
-        Record::Event { state, .. } | Record::Save { state, .. } => state.parts.len(),
-        Record::Restore { .. } => 0,
-    };
-    for part in 0..states {
-        clear_runs(program, &mut best, part, tries);
+    for number in 0..best.clearable().len() {
+        clear_runs(program, &mut best, number, tries);
     }
     best
 }
 
-/// Sets runs of a part's places to 0, long runs first.
-fn clear_runs(program: &Path, best: &mut Record, part: usize, tries: &mut usize) {
-    let mut run = places(best, part).len();
+/// Sets runs of what has this number among the clearable to 0, long runs first.
+fn clear_runs(program: &Path, best: &mut Record, number: usize, tries: &mut usize) {
+    let len = best.clearable()[number].len();
+    let mut run = len;
     while run > 0 {
         let mut start = 0;
-        while start < places(best, part).len() && *tries > 0 {
+        while start < len && *tries > 0 {
             let mut candidate = best.clone();
-            let part = places(&mut candidate, part);
-            let stop = part.len().min(start + run);
-            if part[start..stop].iter().any(|&value| value != 0) {
-                part[start..stop].fill(0);
+            let bytes = &mut candidate.clearable()[number][start..len.min(start + run)];
+            if bytes.iter().any(|&byte| byte != 0) {
+                bytes.fill(0);
                 *tries -= 1;
                 if wrong_alone(program, &candidate).is_some() {
                     *best = candidate;
@@ -97,13 +93,6 @@ fn clear_runs(program: &Path, best: &mut Record, part: usize, tries: &mut usize)
             start += run;
         }
         run /= 2;
-    }
-}
-
-fn places(record: &mut Record, part: usize) -> &mut [u8] {
-    match record {
-        Record::Event { state, .. } | Record::Save { state, .. } => &mut state.parts[part],
-        Record::Restore { .. } => &mut [],
     }
 }
 

@@ -9,19 +9,21 @@
 //!   whole buffer, which held the fill and of which the first `room` bytes were
 //!   lent.
 //! - 2, restore: length (2 bytes), the bytes. The refusal; the state.
+//! - 3, currents: state, a tick's 8 operand bytes. The answer and behind it the
+//!   currents, green, red, blue of pixels A to E, a space before each; the state.
 //!
 //! Bytes are printed as lowercase hexadecimal digits, numbers in decimal.
 
 use crate::report::{before, row, Shown, Table, ACCEPTED};
-use kit::{hexadecimal, highest_kind, largest, place_count, used_bytes, CHIPS};
-use model::{event, kind, restore, save_into, Event, Refusal, State};
+use kit::{hexadecimal, highest_kind, largest, place_count, used_bytes, CHIPS, CURRENTS_CHIP};
+use model::{event, kind, restore, save_into, tick_currents, Event, Operand, Refusal, State};
 
 /// The most records that the program plays.
 pub const MOST_RECORDS: usize = 65_536;
 /// The program's buffer: the most that a save is lent or a restore is given.
 pub const BUFFER_BYTES: usize = 4_096;
 /// A first byte that names no call ends the program. The calls are below this.
-pub const CALLS: u8 = 3;
+pub const CALLS: u8 = 4;
 
 /// A state with a part for each built chip, of which the chip byte names one,
 /// or none.
@@ -92,6 +94,7 @@ pub enum Record {
     Event { state: Whole, event: Event },
     Save { state: Whole, room: usize, fill: u8 },
     Restore { snapshot: Vec<u8> },
+    Currents { state: Whole, operand: Operand },
 }
 
 /// What a call gives by the model: its refusal or 0, and the two lines.
@@ -110,6 +113,7 @@ impl Record {
             Record::Event { .. } => "event",
             Record::Save { .. } => "save",
             Record::Restore { .. } => "restore",
+            Record::Currents { .. } => "currents",
         }
     }
 
@@ -127,6 +131,7 @@ impl Record {
                 [&[1][..], &state.bytes(), &length(*room), &[*fill]].concat()
             }
             Record::Restore { snapshot } => [&[2][..], &length(snapshot.len()), snapshot].concat(),
+            Record::Currents { state, operand } => [&[3][..], &state.bytes(), operand].concat(),
         }
     }
 
@@ -157,6 +162,18 @@ impl Record {
                 Expected {
                     refusal,
                     lines: [refusal.to_string(), hexadecimal(&state.bytes())],
+                }
+            }
+            Record::Currents { state, operand } => {
+                let (answer, next, currents) = tick_currents(&state.named(), operand);
+                let numbers = currents.map(|current| format!(" {current}"));
+                let next = state.clone().with(&next);
+                Expected {
+                    refusal: answer[0].into(),
+                    lines: [
+                        hexadecimal(&answer) + &numbers.concat(),
+                        hexadecimal(&next.bytes()),
+                    ],
                 }
             }
         }
@@ -209,17 +226,22 @@ impl Record {
     }
 
     /// The call without the fault that it is refused for: for a chip that isn't
-    /// built, with each chip that is.
+    /// built, with each chip that is, and for one without currents, with the
+    /// chip that has them.
     fn mended(&self, refusal: u64) -> Vec<Record> {
         let is = |fault: Refusal| refusal == u64::from(fault.number());
         if is(Refusal::SnapshotChip) {
             return CHIPS.into_iter().filter_map(|chip| self.on(chip)).collect();
         }
+        if is(Refusal::CurrentsChip) {
+            return self.on(CURRENTS_CHIP).into_iter().collect();
+        }
         let mut record = self.clone();
+        if let Some(state) = record.state().filter(|_| is(Refusal::Value)) {
+            clamp(state);
+            return vec![record];
+        }
         match &mut record {
-            Record::Event { state, .. } | Record::Save { state, .. } if is(Refusal::Value) => {
-                clamp(state)
-            }
             Record::Event { event, .. } if is(Refusal::Kind) => event.kind = kind::SAVE,
             Record::Event { state, event } if is(Refusal::UnusedByte) => {
                 clear_unused(state.chip, event)
@@ -232,11 +254,32 @@ impl Record {
     /// The call with this chip named by its state, if it takes one.
     fn on(&self, chip: u8) -> Option<Record> {
         let mut record = self.clone();
-        match &mut record {
-            Record::Event { state, .. } | Record::Save { state, .. } => state.chip = chip,
-            Record::Restore { .. } => return None,
-        }
+        record.state()?.chip = chip;
         Some(record)
+    }
+
+    /// The state that the call takes, if it takes one.
+    fn state(&mut self) -> Option<&mut Whole> {
+        match self {
+            Record::Event { state, .. }
+            | Record::Save { state, .. }
+            | Record::Currents { state, .. } => Some(state),
+            Record::Restore { .. } => None,
+        }
+    }
+
+    /// What can be set to 0 in it: a state's parts, and the operand.
+    pub fn clearable(&mut self) -> Vec<&mut [u8]> {
+        let (state, operand) = match self {
+            Record::Event { state, event } => (state, Some(&mut event.operand)),
+            Record::Save { state, .. } => (state, None),
+            Record::Currents { state, operand } => (state, Some(operand)),
+            Record::Restore { .. } => return Vec::new(),
+        };
+        let parts = state.parts.iter_mut().map(Vec::as_mut_slice);
+        parts
+            .chain(operand.map(|operand| &mut operand[..]))
+            .collect()
     }
 
     /// What must be shown by this sort of call.
@@ -245,6 +288,7 @@ impl Record {
             Record::Event { .. } => &EVENTS,
             Record::Save { .. } => &SAVES,
             Record::Restore { .. } => &RESTORES,
+            Record::Currents { .. } => &CURRENTS,
         }
     }
 }
@@ -268,7 +312,7 @@ fn clear_unused(chip: u8, event: &mut Event) {
     }
 }
 
-pub static TABLES: [&Table; 3] = [&EVENTS, &SAVES, &RESTORES];
+pub static TABLES: [&Table; 4] = [&EVENTS, &SAVES, &RESTORES, &CURRENTS];
 
 /// Event called by itself: 21, 25, 14, 15, then 1 to 5.
 pub static EVENTS: Table = Table {
@@ -335,3 +379,64 @@ pub static RESTORES: Table = Table {
         row(Refusal::Value, "value"),
     ],
 };
+
+/// Currents: 40, 25, then 4.
+pub static CURRENTS: Table = Table {
+    title: "currents on a state",
+    rows: &[
+        ACCEPTED,
+        row(Refusal::TickBits, "tick bits"),
+        row(Refusal::Value, "state's value above its largest"),
+        row(Refusal::CurrentsChip, "another chip, built or not"),
+        before(Refusal::CurrentsChip, Refusal::Value),
+        before(Refusal::CurrentsChip, Refusal::TickBits),
+        before(Refusal::Value, Refusal::TickBits),
+    ],
+};
+
+#[cfg(test)]
+mod tests {
+    use super::{Record, Whole};
+    use crate::report::Shown;
+    use kit::{p1, place_count, CHIPS};
+
+    /// A tick with BLK and SYNC high; of a fresh chip it is black.
+    const BLACK: [u8; 8] = [0, 0, 0, 0, 0, 0, 0, 3];
+    /// One with an undefined level bit.
+    const ODD: [u8; 8] = [0, 0, 0, 0, 0, 0, 0, 4];
+
+    #[test]
+    fn currents_as_a_record() {
+        let (state, operand) = (Whole::fresh(1), BLACK);
+        let record = Record::Currents { state, operand };
+        let places: usize = CHIPS.into_iter().map(place_count).sum();
+        let state = [vec![1], vec![0; places]].concat();
+        assert_eq!(record.bytes(), [&[3][..], &state, &BLACK].concat());
+
+        let answer = format!("000403{}", "0".repeat(30));
+        let currents = " 905 144 144".repeat(4) + " 0 0 0";
+        let state = format!("01{}", "00".repeat(places));
+        assert_eq!(record.printed(), format!("{answer}{currents}\n{state}\n"));
+    }
+
+    fn shown(state: Whole, operand: [u8; 8]) -> Vec<Shown> {
+        Record::Currents { state, operand }.shown()
+    }
+
+    #[test]
+    fn refused_currents_with_the_refusal_behind() {
+        let too_large = |chip| {
+            let mut state = Whole::fresh(chip);
+            state.part(1)[p1::POSITION] = 3;
+            state
+        };
+        assert_eq!(shown(Whole::fresh(1), BLACK), [(0, 0)]);
+        assert_eq!(shown(Whole::fresh(1), ODD), [(4, 0)]);
+        assert_eq!(shown(too_large(1), ODD), [(25, 0), (25, 4)]);
+        for chip in [0, 2, 9] {
+            assert_eq!(shown(Whole::fresh(chip), BLACK), [(40, 0)]);
+            assert_eq!(shown(Whole::fresh(chip), ODD), [(40, 0), (40, 4)]);
+            assert_eq!(shown(too_large(chip), ODD), [(40, 0), (40, 25)]);
+        }
+    }
+}

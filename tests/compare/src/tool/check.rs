@@ -3,6 +3,7 @@
 
 use crate::program::WHOLE;
 use crate::tool::classes::{ASSEMBLED, LONG_LOG, LONG_SNAPSHOT, NOT_UNDERSTOOD};
+use crate::tool::classes::{CURRENTS_BLANKED, CURRENTS_FIVE, CURRENTS_FOUR};
 use crate::tool::classes::{
     LISTED_CHIPS, LISTED_EMPTY, LISTED_MOST, LISTED_PIECES, LISTED_VERTICALS,
 };
@@ -11,7 +12,7 @@ use crate::tool::input::{Input, Sort};
 use crate::tool::modelled::{self, refusal_of_log, refusal_of_snapshot, Outcome, Run};
 use crate::tool::{printed, Tool};
 use kit::{is_tick, CHIPS, MOST_EVENTS};
-use model::{kind, Event};
+use model::{kind, Event, Operand};
 
 /// What an input that was right showed, for the counts.
 #[derive(Default)]
@@ -271,4 +272,52 @@ pub fn shown_and_compared(tool: &Tool, input: &Input) -> Checked {
         Err(refusal) => seen.refusals.push(refusal),
     }
     Ok(seen)
+}
+
+// ---- currents
+
+/// A chip 1 tick in the words of a log's text, even bytes in decimal and the
+/// others in hexadecimal.
+fn tick_word(operand: &Operand) -> String {
+    let byte = |byte: u8| match byte % 2 {
+        0 => format!("{byte}"),
+        _ => format!("{byte:X}h"),
+    };
+    let [a, b, c, d, e, ol0, ol1, levels] = operand.map(byte);
+    format!("tick {a} {b} {c} {d} {e} ol0 {ol0} ol1 {ol1} levels {levels}")
+}
+
+/// What `currents` prints for the tick of a log of one event, or that it refuses
+/// the snapshot or the tick.
+pub fn fed(tool: &Tool, input: &Input) -> Checked {
+    let snapshot = input.bytes(Sort::Snapshot);
+    let log = model::read_log(input.bytes(Sort::Log));
+    // A smaller log may have no tick: then there is nothing to get wrong.
+    let Some(&Event { operand, .. }) = log.iter().flat_map(|log| &log.events).find(|e| is_tick(e))
+    else {
+        return Ok(Seen::default());
+    };
+    let currents = tool.on(&["currents", "-", &tick_word(&operand)], snapshot)?;
+    let right = modelled::currents(snapshot, &operand);
+    let refusal = right.as_ref().err().copied().unwrap_or(0);
+    let mut parts = vec![];
+    match right {
+        Err(refusal) => currents.refused(refusal)?,
+        Ok(right) => {
+            let lines = currents.lines(currents.done()?)?;
+            let lines: Vec<String> = lines.iter().map(|line| printed::words(line)).collect();
+            currents.prints(&lines, &printed::of_currents(&right))?;
+            parts.push(match right.answer[1] {
+                4 => CURRENTS_FOUR,
+                _ => CURRENTS_FIVE,
+            });
+            if printed::is_blanked(&right.answer) {
+                parts.push(CURRENTS_BLANKED);
+            }
+        }
+    }
+    Ok(Seen {
+        parts,
+        refusals: vec![refusal],
+    })
 }

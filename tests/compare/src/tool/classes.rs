@@ -51,6 +51,9 @@ pub const NOT_UNDERSTOOD: &str = "tool: damaged texts: not understood";
 pub const SHOWN_CHIPS: [&str; CHIPS.len()] =
     ["tool: show and diff: chip 1", "tool: show and diff: chip 2"];
 pub const SHOWN_DIFFERENT: &str = "tool: show and diff: places that differ";
+pub const CURRENTS_FOUR: &str = "tool: currents: four pixels";
+pub const CURRENTS_FIVE: &str = "tool: currents: five pixels";
+pub const CURRENTS_BLANKED: &str = "tool: currents: blanked";
 
 pub const CLASSES: &[Class] = &[
     Class {
@@ -122,6 +125,15 @@ pub const CLASSES: &[Class] = &[
         table: Some(&SHOWN),
         make: make::two_snapshots,
         check: check::shown_and_compared,
+    },
+    Class {
+        name: "tool: currents",
+        share: 5,
+        fewest: 96,
+        parts: &[CURRENTS_FOUR, CURRENTS_FIVE, CURRENTS_BLANKED],
+        table: Some(&CURRENTS),
+        make: make::snapshot_and_tick,
+        check: check::fed,
     },
 ];
 
@@ -195,5 +207,20 @@ static SHOWN: Table = Table {
         row(Refusal::SnapshotLength, "snapshot's length"),
         row(Refusal::Place, "place"),
         row(Refusal::Value, "value"),
+    ],
+};
+
+static CURRENTS: Table = Table {
+    title: "the tool's currents",
+    rows: &[
+        ACCEPTED,
+        row(Refusal::TickBits, "tick bits"),
+        row(Refusal::SnapshotShort, "snapshot under 3 bytes"),
+        row(Refusal::SnapshotChip, "snapshot's chip"),
+        row(Refusal::SnapshotCount, "snapshot's count"),
+        row(Refusal::SnapshotLength, "snapshot's length"),
+        row(Refusal::Place, "place"),
+        row(Refusal::Value, "value"),
+        row(Refusal::CurrentsChip, "another chip"),
     ],
 };

@@ -198,3 +198,29 @@ fn changed_places(random: &mut Random, chip: u8, places: &[u8]) -> Vec<u8> {
     }
     changed
 }
+
+// ---- currents
+
+/// A snapshot of a TLC34058 and a tick, as a log of one event. Of 8 snapshots
+/// one has a fault and one is another chip's; of 8 ticks one has odd bits.
+pub fn snapshot_and_tick(_: &Tool, random: &mut Random, number: usize) -> Made {
+    const TLC34058: u8 = 1;
+    let (round, turn) = (number / 8, number % 8);
+    let snapshot = match turn {
+        0 => {
+            let fault = SNAPSHOT_FAULTS[round % SNAPSHOT_FAULTS.len()];
+            damaged_snapshot(random, TLC34058, fault)
+        }
+        1 => {
+            let other = random.other_chip(TLC34058);
+            random.snapshot(other)
+        }
+        _ => snapshot_bytes(TLC34058, &nonzero(&some_places(random, TLC34058))),
+    };
+    let tick = match turn {
+        2 => random.odd_tick(TLC34058),
+        _ => random.tick(TLC34058),
+    };
+    let log = log_bytes(TLC34058, &[tick]);
+    Ok(Input::of(Sort::Snapshot, snapshot).and(Sort::Log, log))
+}

@@ -1,7 +1,7 @@
 //! What the model makes of the tool's inputs.
 
 use kit::{snapshot_bytes, CHIPS};
-use model::{Event, ANSWER_BYTES, END_BUFFER_BYTES, MOST_EVENTS};
+use model::{Answer, Event, Operand, ANSWER_BYTES, END_BUFFER_BYTES, MOST_EVENTS};
 
 /// An accepted run.
 pub struct Run {
@@ -57,5 +57,25 @@ pub fn refusal_of_snapshot(snapshot: &[u8]) -> u64 {
     match model::restore(snapshot).refusal {
         Some(refusal) => refusal.number().into(),
         None => 0,
+    }
+}
+
+/// A tick's answer and its currents.
+pub struct Currents {
+    pub answer: Answer,
+    pub currents: model::Currents,
+}
+
+/// A TLC34058's currents for a tick on the state of a snapshot, or the refusal,
+/// that of the tick too.
+pub fn currents(snapshot: &[u8], operand: &Operand) -> Result<Currents, u64> {
+    let restored = model::restore(snapshot);
+    if let Some(refusal) = restored.refusal {
+        return Err(refusal.number().into());
+    }
+    let (answer, _, currents) = model::tick_currents(&restored.state, operand);
+    match answer[0] {
+        0 => Ok(Currents { answer, currents }),
+        refusal => Err(refusal.into()),
     }
 }

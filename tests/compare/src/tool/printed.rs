@@ -1,7 +1,7 @@
 //! The lines that the tool must print, by the model's answers and the kit's
 //! places.
 
-use crate::tool::modelled::Run;
+use crate::tool::modelled::{Currents, Run};
 use kit::{address_place, is_tick, p1};
 
 /// The words for the kinds of events, by their numbers.
@@ -146,4 +146,29 @@ pub fn of_differences(chip: u8, old: &[u8], new: &[u8]) -> Vec<Line> {
             }
         })
         .collect()
+}
+
+/// The words of what `currents` prints.
+pub fn of_currents(right: &Currents) -> Vec<Line> {
+    let level = |bit: u8| match right.answer[2] >> bit & 1 {
+        0 => "low",
+        _ => "high",
+    };
+    let mut lines = vec![
+        Line::Start("chip 1, ".into()),
+        Line::Whole(format!("BLK {}, SYNC {}", level(0), level(1))),
+    ];
+    let codes = right.answer[3..].chunks(3);
+    let pixels = ('A'..='E').zip(codes.zip(right.currents.chunks(3)));
+    for (pixel, (codes, currents)) in pixels.take(right.answer[1].into()) {
+        let milliamperes = |current: u16| format!("{}.{:02} mA", current / 100, current % 100);
+        lines.push(Line::Whole(format!(
+            "pixel {pixel} {}: green {}, red {}, blue {}",
+            colour(codes),
+            milliamperes(currents[0]),
+            milliamperes(currents[1]),
+            milliamperes(currents[2]),
+        )));
+    }
+    lines
 }

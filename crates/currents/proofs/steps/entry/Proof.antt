@@ -20,8 +20,8 @@ returns : tie.Need-returns
 returns c =
     let args = c .before .before .args in
     let wide = c .before .wide in
-    λ span t. 
-    let at = entry span (now (args .table)) t (wide .result) (wide .ensures .1) in 
+    λ span t.
+    let at = entry span (now (args .table)) t (wide .result) (wide .ensures .1) in
     (at .0 ∙ ap (nearest span) (wide .ensures .0), at .1)
 
 pub entry-spec : {M : Type 1} → statement M

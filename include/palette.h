@@ -116,8 +116,9 @@ enum palette_output {
      256u * PALETTE_CURRENT_BYTE(out, pixel, output, 1))
 /* Only PALETTE_CURRENT uses this. */
 #define PALETTE_CURRENT_BYTE(out, pixel, output, byte)                         \
-    ((unsigned)(out)[PALETTE_ANSWER_BYTES +                                    \
-                     2 * (3 * (size_t)(pixel) + (size_t)(output)) + (byte)])
+    ((unsigned)(uint8_t)(out)[PALETTE_ANSWER_BYTES +                           \
+                              2 * (3 * (size_t)(pixel) + (size_t)(output)) +   \
+                              (byte)])
 
 /*
  * Results.
@@ -177,8 +178,8 @@ enum palette_refusal {
     /* Of a run: an operand byte that its event doesn't use isn't 0. */
     PALETTE_REFUSED_LOG_UNUSED = 15,
 
-    /* 20 to 25, of a run and of currents: the snapshot has under
-     * PALETTE_SNAPSHOT_HEADER_BYTES bytes. */
+    /* 20 to 25: of a run and of currents. */
+    /* The snapshot has under PALETTE_SNAPSHOT_HEADER_BYTES bytes. */
     PALETTE_REFUSED_SNAPSHOT_SHORT = 20,
     /* The snapshot's chip byte isn't one of enum palette_chip. */
     PALETTE_REFUSED_SNAPSHOT_CHIP = 21,

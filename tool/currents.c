@@ -28,15 +28,15 @@ static void print_current(const char *name, unsigned hundredths)
     print("%s %2u.%02u mA", name, hundredths / 100, hundredths % 100);
 }
 
-/* A tick's answer: byte 1 the pixel count, byte 2 the levels, then colours. */
+/* The levels and pixels of a TLC34058: the library gives no other chip's currents. */
 static void print_currents(const struct chip *chip, const uint8_t *out)
 {
     print_chip(chip);
     print("BLK %s, SYNC %s\n", (out[2] & 1) != 0 ? "high" : "low",
           (out[2] & 2) != 0 ? "high" : "low");
-    for (size_t pixel = 0; pixel < out[1]; pixel++) {
+    for (size_t pixel = 0; pixel < pixel_count(out); pixel++) {
         print("pixel %c", (char)('A' + pixel));
-        print_colour(chip, out + 3 + COMPONENTS * pixel);
+        print_colour(chip, pixel_of(out, pixel));
         print_current(": green", PALETTE_CURRENT(out, pixel, PALETTE_OUTPUT_GREEN));
         print_current(", red", PALETTE_CURRENT(out, pixel, PALETTE_OUTPUT_RED));
         print_current(", blue", PALETTE_CURRENT(out, pixel, PALETTE_OUTPUT_BLUE));
@@ -60,7 +60,11 @@ static int play(const struct words *words)
         return STATUS_FAILED;
     if (!read_tick(words->operand[1], chip, operand))
         return STATUS_REFUSED;
-    tick_currents(&snapshot, operand, out);
+    refusal = tick_currents(&snapshot, operand, out);
+    if (refusal != PALETTE_ACCEPTED) {
+        say_refused(words->operand[0], refusal);
+        return STATUS_REFUSED;
+    }
     if (out[0] != PALETTE_ACCEPTED) {
         say_refused("TICK", out[0]);
         return STATUS_REFUSED;

@@ -72,6 +72,16 @@ unsigned currents_refusal(const struct snapshot *snapshot)
     return tick_currents(snapshot, operand, out);
 }
 
+size_t pixel_count(const uint8_t *answer)
+{
+    return answer[1];
+}
+
+const uint8_t *pixel_of(const uint8_t *answer, size_t pixel)
+{
+    return answer + 3 + COMPONENTS * pixel;
+}
+
 size_t event_count(const struct log *log)
 {
     return (log->len - PALETTE_LOG_HEADER_BYTES) / PALETTE_EVENT_BYTES;

@@ -1,4 +1,4 @@
-/* The library's byte strings: snapshots and logs from files, and the runs that
+/* The library's byte strings: snapshots and logs from files, and the calls that
  * say whether they are accepted. */
 #ifndef LIBRARY_H
 #define LIBRARY_H
@@ -49,6 +49,11 @@ unsigned tick_currents(const struct snapshot *snapshot, const uint8_t *operand, 
 
 /* Whether currents are given for a snapshot, whatever the tick: the refusal. */
 unsigned currents_refusal(const struct snapshot *snapshot);
+
+/* Of a tick's answer: byte 1 the pixel count, byte 2 the levels, then each pixel's
+ * codes. */
+size_t pixel_count(const uint8_t *answer);
+const uint8_t *pixel_of(const uint8_t *answer, size_t pixel);
 
 /* Of an accepted log. */
 size_t event_count(const struct log *log);

@@ -49,7 +49,7 @@ const char *refusal_in_words(unsigned refusal)
     case PALETTE_REFUSED_END_BUFFER:
         return "the end buffer is too small";
     case PALETTE_REFUSED_CURRENTS_CHIP:
-        return "currents are known of a TLC34058 alone";
+        return "only a TLC34058 has output currents";
     }
     return "unknown refusal";
 }

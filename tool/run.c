@@ -22,17 +22,6 @@ static const uint8_t *answer_to(const struct played *played, size_t event)
     return played->answers->bytes + PALETTE_ANSWER_BYTES * event;
 }
 
-/* A tick's answer: byte 1 the pixel count, byte 2 the levels, then colours. */
-static size_t pixel_count(const uint8_t *answer)
-{
-    return answer[1];
-}
-
-static const uint8_t *pixel_of(const uint8_t *answer, size_t pixel)
-{
-    return answer + 3 + COMPONENTS * pixel;
-}
-
 static bool is_shown_tick(const struct played *played, size_t event)
 {
     return kind_of(played->log, event) == PALETTE_KIND_TICK &&

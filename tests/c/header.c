@@ -1,4 +1,4 @@
-/* The header by itself: included twice, its numbers held to document 01's, its
+/* The header by itself: included twice, its numbers held to the papers', its
  * functions called. Compiled as C99, C11 and C++17; linked with nothing. */
 #include "palette.h"
 #include "palette.h"

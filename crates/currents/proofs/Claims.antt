@@ -15,11 +15,11 @@ use Rattle.event.proofs.Laws.{played-stays}
 use Rattle.tlc34058.specs.Facts as facts
 use Rattle.tlc34058.specs.State as state
 use Rattle.tlc34058.specs.Tick.{undefinedBits, tick}
-use Rattle.chip.specs.Chip.{State, tlc34058, named, valueRefusal, stateRefusal, chip, callRefusal, played}
+use Rattle.chip.specs.Chip.{State, tlc34058, Whole, named, valueRefusal, stateRefusal, chip, callRefusal, played}
 use Rattle.chip.proofs.Named.{named-tlc34058, named-number}
 use Rattle.chip.proofs.Shuffled.{refused-stays}
 use Rattle.currents.specs.Currents.{currentCount, currentsOf, tickOf, unlessTlc34058, otherChip, ticked}
-use Rattle.currents.specs.Claims.{Checks, RefusedLeaves}
+use Rattle.currents.specs.Claims.{Checks}
 use Rattle.currents.proofs.Ticks.{other, own}
 
 -- a tick uses every operand byte, so its form isn't refused
@@ -52,8 +52,8 @@ own-checks s o = rw (tick-form o) (go (eqb v 0) refl)
     go true e = tick-refusal s o
     go false e = simp e
 
-pub checks : Checks
-checks w o =
+in-order : (w : Whole) (o : List ℕ) → refusalIn (ticked (named w) o .answer) ≡ orElse (otherChip (named w)) (orElse (valueRefusal (named w)) (cond (undefinedBits o) 4 0))
+in-order w o =
     decide _ (eqb (w .number) facts.number)
     (λ y.
     let one : otherChip (named w) ≡ 0 = ap unlessTlc34058 (named-number w) ∙ simp y in
@@ -79,5 +79,5 @@ ticked-stays : (s : State) (o : List ℕ) → (refusalIn (ticked s o .answer) �
 unfolding ticked
 ticked-stays s o = cond-all {A = Outcome State} (λ p. (refusalIn (p .answer) ≡ 0 → ⊥) → p .state ≡ s) (eqb (otherChip s) 0) _ _ (played-stays chip refused-stays (callRefusal s (tickOf o)) s (tickOf o)) (λ h. refl)
 
-pub refused-leaves : RefusedLeaves
-refused-leaves s o h = (ticked-stays s o h, no-current (ticked s o .answer) h)
+pub checks : Checks
+checks w o = record { order = in-order w o; leaves = λ h. (ticked-stays (named w) o h, no-current (ticked (named w) o .answer) h) }

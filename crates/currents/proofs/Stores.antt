@@ -27,12 +27,3 @@ put-more l o n i {w} h e =
 -- nothing is left past the last
 pub put-all : (l o : List ℕ) (n i : ℕ) {w : List ℕ} → length l ≤ i → leftFrom l o n i ≡ w → o ≡ w
 put-all l o n i h e = rw (drop-of-length-le l h) at e
-
--- bytes stored behind others at the start of a buffer
-pub stored-behind : (a v o : List ℕ) (n : ℕ) → length a ≡ n → n + length v ≤ length o → sets (over a o) n v ≡ over (a ++ v) o
-stored-behind a v o n e h =
-    let l : List ℕ = over a o in
-    let long : length l ≡ length o = simp (length-append, length-drop) (omega arith) in
-    let rest : drop (n + length v) l ≡ drop (length (a ++ v)) o =
-    rw (← e) (drop-append-add a (drop (length a) o) (length v) ∙ drop-drop (length v) (length a) o) ∙ ap (λ k. drop k o) (sym (length-append a v)) in
-    sets-eq v l n (omega arith) ∙ rw (take-at a (drop (length a) o) n e, rest)

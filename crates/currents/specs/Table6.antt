@@ -52,7 +52,7 @@ table =
     -- without SYNC: data, black
     ∷ row 1 128 (144 + 884) (144 + 884)
     ∷ row 1 0 144 144
-    -- blanked, any data: SYNC high, then low
+    -- blanked, codes 0 and 255: SYNC high, then low
     ∷ row 2 0 762 0
     ∷ row 2 255 762 0
     ∷ row 0 0 0 0

@@ -1,12 +1,12 @@
 -- Stores into lists, zeros, and lists one behind the other.
 use Prim.Native.Nat.{ℕ, zero, suc, _+_, _≤_, _<_}
-use mathlib.Core.Path.{_≡_, refl, _∙_, ap}
+use mathlib.Core.Path.{_≡_, refl, sym, _∙_, ap}
 use mathlib.Core.List.{List, [], _∷_, _++_, append-nil}
 use native.Mathlib.Omega.{arith}
 use native.Mathlib.Nat.{zero-add, suc-add}
 use native.Mathlib.Numerals.{add-one}
 use lib.ListN.{length, getD, set, take, drop, replicate, length-append, length-drop, drop-of-length-le}
-use lib.Seq.{length-take-le, drop-cons, set-at, take-suc, append-snoc, take-length, take-at, sets, sets-eq}
+use lib.Seq.{length-take-le, drop-cons, drop-drop, drop-append-add, set-at, take-suc, append-snoc, take-length, take-at, sets, sets-eq}
 
 -- what holds of each element at its index still does after a store
 pub set-all : (P : ℕ → ℕ → Type 0) (l : List ℕ) (i v : ℕ) → P i v → ((j : ℕ) → P j (getD l j 0)) → (j : ℕ) → P j (getD (set l i v) j 0)
@@ -48,12 +48,20 @@ copy-more s d i h h′ =
 pub copy-all : (s d : List ℕ) (i : ℕ) → length s ≤ i → i ≤ length s → take i s ++ drop i d ≡ s ++ drop (length s) d
 copy-all s d i h h′ = let e : i ≡ length s = omega arith in rw (e, take-length)
 
--- n elements copied over the start of a list, and the rest of it stored behind them
+-- elements copied over the start of a list, and others stored behind them
+pub stored-after : (s room vs : List ℕ) (n : ℕ) → length s ≡ n → n + length vs ≤ length room → sets (s ++ drop (length s) room) n vs ≡ (s ++ vs) ++ drop (length (s ++ vs)) room
+stored-after s room vs n e h =
+    let l : List ℕ = s ++ drop (length s) room in
+    let long : length l ≡ length room = simp (length-append, length-drop) (omega arith) in
+    let rest : drop (n + length vs) l ≡ drop (length (s ++ vs)) room =
+    rw (← e) (drop-append-add s (drop (length s) room) (length vs) ∙ drop-drop (length vs) (length s) room) ∙ ap (λ k. drop k room) (sym (length-append s vs)) in
+    sets-eq vs l n (omega arith) ∙ rw (take-at s (drop (length s) room) n e, rest)
+
+-- up to its end
 pub stored-behind : (s room vs : List ℕ) (n : ℕ) → length s ≡ n → length room ≡ n + length vs → sets (s ++ drop (length s) room) n vs ≡ s ++ vs
 stored-behind s room vs n e h =
-    let l : List ℕ = s ++ drop (length s) room in
-    let long : length l ≡ n + length vs = simp (length-append, length-drop) (omega arith) in
-    sets-eq vs l n (omega arith) ∙ rw (take-at s (drop (length s) room) n e, drop-of-length-le l {i = n + length vs} (omega arith), append-nil)
+    let long : length (s ++ vs) ≡ length room = simp length-append (omega arith) in
+    stored-after s room vs n e (omega arith) ∙ rw (drop-of-length-le room {i = length (s ++ vs)} (omega arith), append-nil)
 
 -- m elements from index n on
 abbrev pub listFrom : List ℕ → ℕ → ℕ → List ℕ

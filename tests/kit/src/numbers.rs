@@ -1,5 +1,5 @@
 //! The sizes and limits of answers, logs, snapshots and currents. Copied from
-//! documents 01 and 02.
+//! document 01 and, of the call for currents, from the C header.
 
 /// An event's answer.
 pub const ANSWER_BYTES: usize = 18;

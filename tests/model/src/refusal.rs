@@ -1,7 +1,8 @@
 //! The refusal table of document 01, and the refusal that document 02 adds for
 //! the currents.
 
-/// A refusal, with the number that its document gives it.
+/// A refusal, with the number that its document gives it, or the C header for
+/// the currents' call on byte strings.
 #[derive(Clone, Copy, Debug, PartialEq, Eq)]
 #[repr(u8)]
 pub enum Refusal {

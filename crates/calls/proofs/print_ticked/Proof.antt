@@ -2,15 +2,16 @@
 use Prim.Native.Nat.{_≤_, _-_}
 use mathlib.Core.Path.{_≡_}
 use lib.ListN.{length}
+use Rattle.currents.specs.Currents.{currentCount}
 use borrow.Author.Needs.{needs}
 use Rattle.calls.proofs.print_ticked.Statement.{statement}
 use Rattle.calls.proofs.print_ticked.Tie as tie
 
 abbrev Inv-loop : tie.InvT-loop
-Inv-loop currents i₀ t6 i = (i ≤ 15) × (length currents ≡ 15)
+Inv-loop currents i₀ t6 i = (i ≤ currentCount) × (length currents ≡ currentCount)
 
 abbrev μ-loop : tie.MeasureT-loop
-μ-loop currents i₀ t6 i = 15 - i
+μ-loop currents i₀ t6 i = currentCount - i
 
 slice-aggregate-print-digits : tie.Need-slice-aggregate-print-digits Inv-loop μ-loop
 slice-aggregate-print-digits c = search needs

@@ -1,5 +1,6 @@
 -- `put_out` meets its contract.
-use Rattle.currents.proofs.Stores.{two-long, stored-behind}
+use Rattle.laws.proofs.Lists.{stored-after}
+use Rattle.currents.proofs.Stores.{two-long}
 use Rattle.snapshot.specs.Snapshot.{twoBytes}
 use Rattle.event.specs.Answer.{answerLong}
 use Rattle.currents.specs.Currents.{currentCount}
@@ -34,7 +35,7 @@ returns c =
     let long : length answer ≡ answerLong = search needs in
     let many : length (args .currents) ≡ currentCount = search needs in
     put-currents .ensures ∙ ap (λ l. sets l answerLong (twoBytes (args .currents))) (copy .ensures)
-    ∙ stored-behind answer (twoBytes (args .currents)) (now (args .out)) answerLong long (omega (arith, two-long (args .currents), pre))
+    ∙ stored-after answer (now (args .out)) (twoBytes (args .currents)) answerLong long (omega (arith, two-long (args .currents), pre))
 
 pub put-out-spec : {M : Type 1} → statement M
 put-out-spec =

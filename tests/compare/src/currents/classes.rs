@@ -6,7 +6,7 @@ use crate::compared::{class, Class, Sweep};
 use crate::currents::case::Case;
 use crate::currents::faults::{accepted, one_and_two, planted, BEHIND_THE_SNAPSHOT};
 use crate::damage::{damaged_snapshot, snapshot_with_two_faults, SNAPSHOT_FAULTS};
-use kit::{nonzero, p1, place_count, snapshot_bytes, Random, CHIPS};
+use kit::{nonzero, p1, place_count, snapshot_bytes, Random, ANSWER_BYTES, CHIPS};
 use kit::{CURRENTS_BYTES, CURRENTS_CHIP, END_BYTES, OPERAND_BYTES};
 use model::{Operand, Refusal};
 
@@ -178,8 +178,23 @@ fn every_chip_byte(random: &mut Random) -> Vec<Case> {
 }
 
 fn every_length(random: &mut Random) -> Vec<Case> {
-    const OUT: [usize; 7] = [0, 1, 18, 47, CURRENTS_BYTES, 49, 90];
-    const END: [usize; 6] = [0, 3, 2369, END_BYTES, 2371, 2410];
+    const OUT: [usize; 7] = [
+        0,
+        1,
+        ANSWER_BYTES,
+        CURRENTS_BYTES - 1,
+        CURRENTS_BYTES,
+        CURRENTS_BYTES + 1,
+        90,
+    ];
+    const END: [usize; 6] = [
+        0,
+        3,
+        END_BYTES - 1,
+        END_BYTES,
+        END_BYTES + 1,
+        END_BYTES + 40,
+    ];
     let buffers: Vec<_> = OUT
         .iter()
         .flat_map(|out| END.map(|end| (*out, end)))

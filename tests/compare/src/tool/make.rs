@@ -6,7 +6,7 @@ use crate::replay::very_long;
 use crate::tool::input::{Input, Sort};
 use crate::tool::{modelled, texts, Tool};
 use kit::{address_place, chip_of_round, largest, log_bytes, nonzero, place_count};
-use kit::{snapshot_bytes, vertical, Random, CHIPS};
+use kit::{snapshot_bytes, vertical, Random, CHIPS, CURRENTS_CHIP};
 use model::{Event, MOST_EVENTS};
 
 /// An input, or why the tool gives nothing to make it of.
@@ -204,23 +204,22 @@ fn changed_places(random: &mut Random, chip: u8, places: &[u8]) -> Vec<u8> {
 /// A snapshot of a TLC34058 and a tick, as a log of one event. Of 8 snapshots
 /// one has a fault and one is another chip's; of 8 ticks one has odd bits.
 pub fn snapshot_and_tick(_: &Tool, random: &mut Random, number: usize) -> Made {
-    const TLC34058: u8 = 1;
     let (round, turn) = (number / 8, number % 8);
     let snapshot = match turn {
         0 => {
             let fault = SNAPSHOT_FAULTS[round % SNAPSHOT_FAULTS.len()];
-            damaged_snapshot(random, TLC34058, fault)
+            damaged_snapshot(random, CURRENTS_CHIP, fault)
         }
         1 => {
-            let other = random.other_chip(TLC34058);
+            let other = random.other_chip(CURRENTS_CHIP);
             random.snapshot(other)
         }
-        _ => snapshot_bytes(TLC34058, &nonzero(&some_places(random, TLC34058))),
+        _ => snapshot_bytes(CURRENTS_CHIP, &nonzero(&some_places(random, CURRENTS_CHIP))),
     };
     let tick = match turn {
-        2 => random.odd_tick(TLC34058),
-        _ => random.tick(TLC34058),
+        2 => random.odd_tick(CURRENTS_CHIP),
+        _ => random.tick(CURRENTS_CHIP),
     };
-    let log = log_bytes(TLC34058, &[tick]);
+    let log = log_bytes(CURRENTS_CHIP, &[tick]);
     Ok(Input::of(Sort::Snapshot, snapshot).and(Sort::Log, log))
 }

@@ -80,4 +80,4 @@ unfolding ticked
 ticked-stays s o = cond-all {A = Outcome State} (λ p. (refusalIn (p .answer) ≡ 0 → ⊥) → p .state ≡ s) (eqb (otherChip s) 0) _ _ (played-stays chip refused-stays (callRefusal s (tickOf o)) s (tickOf o)) (λ h. refl)
 
 pub checks : Checks
-checks w o = record { order = in-order w o; leaves = λ h. (ticked-stays (named w) o h, no-current (ticked (named w) o .answer) h) }
+checks w o = record { order = in-order w o; unchanged = λ h. (ticked-stays (named w) o h, no-current (ticked (named w) o .answer) h) }

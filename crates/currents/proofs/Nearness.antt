@@ -47,3 +47,7 @@ entry span table t code h =
     let near : isNear span code (getD table code 0) ≡ true = subst (λ (c : ℕ). isNear span c (getD table code 0) ≡ true) (zero-add code) (at-entry span table 0 (tested .1) code (omega arith)) in
     let found : getD table code 0 ≡ nearest span code = only span code (getD table code 0) (nearest span code) (leb-true _ _ near) (nearest-near span code) in
     (found, omega (arith, found, within span code (omega arith)))
+
+-- so every entry keeps the rule, whatever the span
+pub entry-rule : (span : ℕ) (table : List ℕ) → isTable span table ≡ true → (code : ℕ) → code < 256 → IsNearest span code (getD table code 0)
+entry-rule span table t code h = rw (entry span table t code h .0) (nearness span code)

@@ -13,7 +13,7 @@ use Rattle.currents.specs.Currents.{currentCount, currentsOf, otherChip,
 -- the refusal in the answer is 40, then 25, then 4, and no other of an event called by itself; where there is one, the state handed in comes back and every current is 0
 pub record Checked (s : State) (operand : List ℕ) : Type 0 where
   pub order : refusalIn (ticked s operand .answer) ≡ orElse (otherChip s) (orElse (valueRefusal s) (cond (undefinedBits operand) 4 0))
-  pub leaves : (refusalIn (ticked s operand .answer) ≡ 0 → ⊥) → (ticked s operand .state ≡ s) × (currentsOf (ticked s operand .answer) ≡ replicate currentCount 0)
+  pub unchanged : (refusalIn (ticked s operand .answer) ≡ 0 → ⊥) → (ticked s operand .state ≡ s) × (currentsOf (ticked s operand .answer) ≡ replicate currentCount 0)
 
 -- of every state that a struct of the code can stand for
 abbrev pub Checks : Type 0

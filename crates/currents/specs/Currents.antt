@@ -1,5 +1,6 @@
 -- The 15 currents beside a tick's answer, and the call that gives them with the answer and the next state.
 use Prim.Native.Nat.{ℕ, _+_, _*_}
+use mathlib.Core.Path.{_≡_, refl}
 use mathlib.Core.Bool.{cond}
 use mathlib.Core.List.{List, [], _∷_, _++_}
 use lib.Dec.{eqb, ltb}
@@ -9,6 +10,7 @@ use Rattle.event.specs.Answer.{Answer, refused, gave, done, showed}
 use Rattle.event.specs.Event.{Raw, Outcome}
 use Rattle.tlc34058.specs.Facts as facts
 use Rattle.chip.specs.Chip.{State, numberOf, played}
+use Rattle.currents.specs.Nearest.{nearest}
 use Rattle.currents.specs.Table6.{green, redOrBlue}
 
 -- ---- beside an answer
@@ -51,3 +53,14 @@ unfoldable pub ticked : State → List ℕ → Outcome State
 ticked s operand =
     cond (eqb (otherChip s) 0) (played s (tickOf operand))
     (record { answer = refused (otherChip s); state = s })
+
+-- ---- computed
+
+-- one pixel, SYNC and BLK high: white, and code 128 above black
+pub white : pixels 1 3 (255 ∷ 255 ∷ 255 ∷ []) ≡ 2667 ∷ 1905 ∷ 1905 ∷ replicate 12 0
+unfolding green redOrBlue nearest
+white = refl
+
+pub middle : pixels 1 3 (128 ∷ 128 ∷ 128 ∷ []) ≡ (905 + 884) ∷ (144 + 884) ∷ (144 + 884) ∷ replicate 12 0
+unfolding green redOrBlue nearest
+middle = refl

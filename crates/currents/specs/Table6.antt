@@ -34,14 +34,15 @@ redOrBlue levels code = cond (blk levels) (144 + nearest otherSpan code) 0
 
 -- ---- its rows
 
+-- the levels and a code, and the currents: IOG; IOR and IOB
 pub record Row : Type 0 where
   pub levels : ℕ
   pub code : ℕ
-  pub green : ℕ
-  pub redOrBlue : ℕ
+  pub iog : ℕ
+  pub others : ℕ
 
 abbrev pub row : ℕ → ℕ → ℕ → ℕ → Row
-row levels code g rb = record { levels = levels; code = code; green = g; redOrBlue = rb }
+row levels code iog others = record { levels = levels; code = code; iog = iog; others = others }
 
 unfoldable pub table : List Row
 table =
@@ -60,7 +61,7 @@ table =
     ∷ []
 
 abbrev pub agrees : Row → Bool
-agrees r = eqb (green (r .levels) (r .code)) (r .green) && eqb (redOrBlue (r .levels) (r .code)) (r .redOrBlue)
+agrees r = eqb (green (r .levels) (r .code)) (r .iog) && eqb (redOrBlue (r .levels) (r .code)) (r .others)
 
 -- every row holds
 pub rows : T (all agrees table)

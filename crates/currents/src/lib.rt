@@ -8,8 +8,7 @@ ghost use lib.Seq.{sets};
 ghost use Rattle.bytes.specs.Buffer.{over};
 ghost use Rattle.snapshot.specs.Snapshot.{twoBytes};
 ghost use Rattle.event.specs.Answer.{answerLong};
-ghost use Rattle.chip.specs.Chip.{snapshotRefusal, restoredWhole};
-ghost use Rattle.chip.specs.Struct.{wholeOf, stateOf};
+ghost use Rattle.chip.specs.Struct.{stateOf};
 ghost use Rattle.currents.specs.Nearest.{isTable};
 ghost use Rattle.currents.specs.Table6.{greenSpan, otherSpan, green as greenCurrent, redOrBlue};
 ghost use Rattle.currents.specs.Currents.{pixel as pixelAt, pixels, unlessTlc34058, ticked};
@@ -23,7 +22,7 @@ mod steps;
 pub const CURRENTS: usize = 15;
 
 // A tick's answer, and its currents of two bytes.
-pub const OUT_BYTES: usize = event::ANSWER_BYTES + 2 * CURRENTS;
+const OUT_BYTES: usize = event::ANSWER_BYTES + 2 * CURRENTS;
 
 // The three currents of a pixel.
 struct Outputs {

@@ -42,7 +42,7 @@ module _ (l : List ℕ) (i : ℕ) (h : i < length l) where
   pub values-more : (getD l i 0 ≡ 0 → ⊥) → valuesOf (drop i l) ≡ getD l i 0 ∷ valuesOf (drop (i + 1) l)
   values-more z = rw (add-one i, drop-cons l i 0 h) (simp (ne-eqb _ _ z))
 
-store-two : (o : List ℕ) (k a b : ℕ) (rest : List ℕ) → sets o k (a ∷ b ∷ rest) ≡ sets (set (set o k a) (k + 1) b) (k + 2) rest
+pub store-two : (o : List ℕ) (k a b : ℕ) (rest : List ℕ) → sets o k (a ∷ b ∷ rest) ≡ sets (set (set o k a) (k + 1) b) (k + 2) rest
 store-two o k a b rest = rw (add-one k, add-two k)
 
 -- a store past a run of stores, made before it

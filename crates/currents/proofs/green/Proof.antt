@@ -14,7 +14,7 @@ entry-requires c κs = search needs
 add-result : tie.Need-add-result
 add-result c =
     let pre = c .before .before .before .pre in
-    omega (arith, c .entry .ensures greenSpan (pre) .1)
+    omega (arith, c .entry .ensures greenSpan pre .1)
 
 returns : tie.Need-returns
 unfolding green
@@ -22,7 +22,7 @@ returns c =
     let if1 = c .before .before .if1 in
     let if2 = c .before .if2 in
     let pre = c .before .before .before .pre in
-    sym (simp (div-one, eq-eqb _ _ (if1 .taken), eq-eqb _ _ (if2 .taken), c .entry .ensures greenSpan (pre) .0))
+    sym (simp (div-one, eq-eqb _ _ (if1 .taken), eq-eqb _ _ (if2 .taken), c .entry .ensures greenSpan pre .0))
 
 entry-requires-2 : tie.Need-entry-requires-2
 entry-requires-2 c κs = search needs
@@ -30,7 +30,7 @@ entry-requires-2 c κs = search needs
 add-result-2 : tie.Need-add-result-2
 add-result-2 c =
     let pre = c .before .before .before .pre in
-    omega (arith, c .entry2 .ensures greenSpan (pre) .1)
+    omega (arith, c .entry2 .ensures greenSpan pre .1)
 
 returns-2 : tie.Need-returns-2
 unfolding green
@@ -38,7 +38,7 @@ returns-2 c =
     let if1 = c .before .before .if1 in
     let if2 = c .before .if2 in
     let pre = c .before .before .before .pre in
-    sym (simp (div-one, eq-eqb _ _ (if1 .taken), ne-eqb _ _ (if2 .left), c .entry2 .ensures greenSpan (pre) .0))
+    sym (simp (div-one, eq-eqb _ _ (if1 .taken), ne-eqb _ _ (if2 .left), c .entry2 .ensures greenSpan pre .0))
 
 returns-3 : tie.Need-returns-3
 unfolding green

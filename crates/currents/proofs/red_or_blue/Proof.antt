@@ -14,14 +14,14 @@ entry-requires c κs = search needs
 add-result : tie.Need-add-result
 add-result c =
     let pre = c .before .before .pre in
-    omega (arith, c .entry .ensures otherSpan (pre) .1)
+    omega (arith, c .entry .ensures otherSpan pre .1)
 
 returns : tie.Need-returns
 unfolding redOrBlue
 returns c =
     let if1 = c .before .if1 in
     let pre = c .before .before .pre in
-    sym (simp (div-one, eq-eqb _ _ (if1 .taken), c .entry .ensures otherSpan (pre) .0))
+    sym (simp (div-one, eq-eqb _ _ (if1 .taken), c .entry .ensures otherSpan pre .0))
 
 returns-2 : tie.Need-returns-2
 unfolding redOrBlue

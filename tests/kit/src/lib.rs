@@ -23,6 +23,6 @@ pub use chips::{other_chips, place_count, CURRENTS_CHIP};
 pub use events::{is_access, is_display, is_save, is_tick, only, Sort};
 pub use events::{read, save, tick, vertical, write};
 pub use numbers::{ANSWER_BYTES, END_BYTES, EVENT_BYTES, LOG_HEADER_BYTES, MOST_EVENTS};
-pub use numbers::{CURRENTS_BYTES, OPERAND_BYTES};
+pub use numbers::{CURRENTS_BYTES, MOST_LOG_BYTES, OLDER_MOST_EVENTS, OPERAND_BYTES};
 pub use random::Random;
 pub use shuffle::{before_painting, free_shuffle, painting_shuffle, riffle, with_saves};

@@ -1,16 +1,20 @@
 //! The sizes and limits of answers, logs, snapshots and currents. Copied from
-//! document 01 and, of the call for currents, from the C header.
+//! documents 01 and 02 and, of the call for currents, from the C header.
 
 /// An event's answer.
 pub const ANSWER_BYTES: usize = 18;
 /// The end buffer needs this much, and so does a buffer that is saved into.
 pub const END_BYTES: usize = 2370;
 /// The most events of a log.
-pub const MOST_EVENTS: usize = 3000;
+pub const MOST_EVENTS: usize = 7000;
+/// The most events of a log before document 02's Note 2.
+pub const OLDER_MOST_EVENTS: usize = 3000;
 /// A log's chip byte and count.
 pub const LOG_HEADER_BYTES: usize = 5;
 /// An event in a log: kind and operand.
 pub const EVENT_BYTES: usize = 9;
+/// The longest log.
+pub const MOST_LOG_BYTES: usize = LOG_HEADER_BYTES + EVENT_BYTES * MOST_EVENTS;
 /// The operand alone, which the currents take too.
 pub const OPERAND_BYTES: usize = 8;
 /// A tick's answer, and behind it three currents of 2 bytes for each of pixels

@@ -3,7 +3,7 @@
 //! output currents of a chip 1 tick, the painting accesses and the printing
 //! program's output.
 //!
-//! It rests on document 01 (the scope paper, `01-scope.md`), on Note 1 of
+//! It rests on document 01 (the scope paper, `01-scope.md`), on Notes 1 and 2 of
 //! document 02 (`02-change-requests.md`) and on the data sheets of the TLC34058
 //! (source document 000) and the HD153129 (source document 001) alone,
 //! independently of the code that it is compared with. Where a paper leaves two

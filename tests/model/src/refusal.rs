@@ -1,5 +1,5 @@
-//! The refusal table of document 01, and the refusal that document 02 adds for
-//! the currents.
+//! The refusal table of document 01, refusal 12 with the limit of document 02's
+//! Note 2, and the refusal that Note 1 adds for the currents.
 
 /// A refusal, with the number that its document gives it, or the C header for
 /// the currents' call on byte strings.
@@ -21,7 +21,7 @@ pub enum Refusal {
     LogShort = 10,
     /// Log's chip not built.
     LogChip = 11,
-    /// Log's count over 3,000.
+    /// Log's count over [`MOST_EVENTS`](crate::MOST_EVENTS).
     LogCount = 12,
     /// Log's length not 5 + 9n; operand, lent for its currents, not 8 bytes.
     LogLength = 13,

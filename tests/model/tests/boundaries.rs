@@ -1,10 +1,17 @@
-//! Boundary values: addresses 3, 4, 7, 8 and FFh, position 2, count 0 and the
-//! limit, lengths one off.
+//! Boundary values: addresses 3, 4, 7, 8 and FFh, position 2, count 0, the limit
+//! and the older limit, each byte of the count, lengths one off.
 
-use crate::common::{play, Bench};
+use crate::common::{assert_refused, play, run_with, Bench};
 use kit::{c, log_bytes, p1, p2, read, rs, vertical, write};
-use kit::{ANSWER_BYTES, END_BYTES, EVENT_BYTES, LOG_HEADER_BYTES, MOST_EVENTS};
+use kit::{ANSWER_BYTES, END_BYTES, EVENT_BYTES, LOG_HEADER_BYTES};
+use kit::{MOST_EVENTS, MOST_LOG_BYTES, OLDER_MOST_EVENTS};
 use model::{read_log, run};
+use std::cmp::Ordering;
+
+/// A log's refusal, or 0.
+fn log_refusal(log: &[u8]) -> u8 {
+    read_log(log).err().map_or(0, |refusal| refusal.number())
+}
 
 #[test]
 fn chip_1_triples_at_the_edge_addresses() {
@@ -147,32 +154,129 @@ fn a_log_of_no_events_gives_the_start_snapshot_back() {
 }
 
 #[test]
-fn the_limit_of_3000_events_is_accepted_and_3001_is_not() {
-    // 2,999 vertical periods (23 x 128 + 55) and an address write.
+fn the_limit_of_7000_events_is_accepted_and_7001_is_not() {
+    // 6,999 vertical periods (54 x 128 + 87) and an address write.
     let mut events = vec![vertical(); MOST_EVENTS - 1];
     events.push(write(c::ADDRESS, 6));
     let log = log_bytes(1, &events);
-    assert_eq!(log.len(), LOG_HEADER_BYTES + EVENT_BYTES * MOST_EVENTS);
-    assert_eq!(log[1..5], [0xB8, 0x0B, 0, 0]);
+    assert_eq!([log.len(), MOST_LOG_BYTES], [63_005; 2]);
+    assert_eq!(log[1..5], [0x58, 0x1B, 0, 0]);
     let mut answers = vec![0xEE; ANSWER_BYTES * MOST_EVENTS];
     let mut end = vec![0xEE; END_BYTES];
     assert_eq!(run(&[1, 0, 0], &log, &mut answers, &mut end), 9);
     assert_eq!(answers, vec![0; ANSWER_BYTES * MOST_EVENTS]);
-    assert_eq!(end[..9], [1, 2, 0, 0x0C, 0x03, 0x14, 0x03, 6, 55]);
+    assert_eq!(end[..9], [1, 2, 0, 0x0C, 0x03, 0x14, 0x03, 6, 87]);
 
     events.push(write(c::ADDRESS, 7));
     let log = log_bytes(1, &events);
-    let mut answers = vec![0xEE; ANSWER_BYTES * (MOST_EVENTS + 1)];
-    let mut end = vec![0xEE; END_BYTES];
-    let result = run(&[1, 0, 0], &log, &mut answers, &mut end);
-    assert_eq!(result, 12 * 65_536);
-    assert_eq!(answers, vec![0xEE; ANSWER_BYTES * (MOST_EVENTS + 1)]);
-    assert_eq!(end, vec![0xEE; END_BYTES]);
+    assert_eq!(log[1..5], [0x59, 0x1B, 0, 0]);
+    let answer_bytes = ANSWER_BYTES * (MOST_EVENTS + 1);
+    assert_refused(&[1, 0, 0], &log, answer_bytes, END_BYTES, 12);
+}
+
+/// A chip 1 log of this many events: an address write, vertical periods and a
+/// read of the address.
+fn periods_before_a_read(count: usize) -> Vec<u8> {
+    let mut events = vec![vertical(); count];
+    events[0] = write(c::ADDRESS, 6);
+    events[count - 1] = read(c::ADDRESS);
+    log_bytes(1, &events)
+}
+
+/// Runs such a log from a fresh chip with no answer byte to spare. The last
+/// answer alone isn't all zeros, and the end has this blink count.
+fn assert_periods_run(count: usize, blink_count: u8) {
+    let log = periods_before_a_read(count);
+    let (result, answers, end) = run_with(&[1, 0, 0], &log, ANSWER_BYTES * count, END_BYTES);
+    assert_eq!(result, 9);
+    let (earlier, last) = answers.split_at(ANSWER_BYTES * (count - 1));
+    assert_eq!(earlier, vec![0; earlier.len()]);
+    assert_eq!(last[..2], [0, 6]);
+    assert_eq!(last[2..], [0; ANSWER_BYTES - 2]);
+    assert_eq!(end[..9], [1, 2, 0, 0x0C, 0x03, 0x14, 0x03, 6, blink_count]);
+    assert_eq!(end[9..], [0x5A; END_BYTES - 9]);
+}
+
+#[test]
+fn one_event_under_the_limit_is_accepted() {
+    // 6,997 vertical periods: 54 x 128 + 85. The limit itself has one more.
+    assert_periods_run(MOST_EVENTS - 1, 85);
+    assert_periods_run(MOST_EVENTS, 86);
+}
+
+/// What a caller brings that keeps to the older limit: 54,000 answer bytes.
+#[test]
+fn a_log_over_the_older_limit_needs_more_answer_bytes() {
+    let older = ANSWER_BYTES * OLDER_MOST_EVENTS;
+    assert_eq!(older, 54_000);
+    // 2,998 vertical periods: 23 x 128 + 54. One event over has one more.
+    assert_periods_run(OLDER_MOST_EVENTS, 54);
+    assert_periods_run(OLDER_MOST_EVENTS + 1, 55);
+
+    let log = periods_before_a_read(OLDER_MOST_EVENTS + 1);
+    assert_eq!(log[1..5], [0xB9, 0x0B, 0, 0]);
+    let (result, _, _) = run_with(&[1, 0, 0], &log, 54_018, END_BYTES);
+    assert_eq!(result, 9);
+    assert_refused(&[1, 0, 0], &log, 54_017, END_BYTES, 30);
+    assert_refused(&[1, 0, 0], &log, older, END_BYTES, 30);
+    // 30 comes before 31.
+    assert_refused(&[1, 0, 0], &log, older, END_BYTES - 1, 30);
+}
+
+/// The bytes of the longest log, but for one byte of its count: a smaller byte
+/// makes the log too long for its count, a larger one the count too large.
+#[test]
+fn each_byte_of_the_count_decides() {
+    let longest = log_bytes(2, &vec![read(rs::PIXEL_MASK); MOST_EVENTS]);
+    for at in 1..LOG_HEADER_BYTES {
+        for byte in 0..=255 {
+            let mut log = longest.clone();
+            log[at] = byte;
+            let number = match byte.cmp(&longest[at]) {
+                Ordering::Less => 13,
+                Ordering::Equal => 0,
+                Ordering::Greater => 12,
+            };
+            assert_eq!(log_refusal(&log), number, "byte {at} is {byte}");
+        }
+    }
+}
+
+#[test]
+fn a_count_too_large_by_its_upper_bytes_alone_is_refused_whatever_follows() {
+    // 65,536 + 7,000 and 16,777,216 + 1 among them.
+    for count in [
+        [0x58, 0x1B, 1, 0],
+        [1, 0, 0, 1],
+        [0, 0, 1, 0],
+        [0xB9, 0x0B, 0xFF, 0],
+        [0x58, 0x1B, 0, 0x80],
+        [0x57, 0x1B, 0xFF, 0xFF],
+    ] {
+        let low = usize::from(u16::from_le_bytes([count[0], count[1]]));
+        let good = log_bytes(1, &vec![vertical(); low]);
+        assert_eq!(log_refusal(&good), 0);
+        let events = &good[LOG_HEADER_BYTES..];
+        let longer = [events, &[0]].concat();
+        let odd = vec![0xFF; events.len()];
+        for rest in [&[], events, &longer, &odd] {
+            let log = [&[1], &count[..], rest].concat();
+            assert_refused(&[1, 0, 0], &log, ANSWER_BYTES * low, END_BYTES, 12);
+        }
+    }
+    // Every event that the count claims, and an answer buffer for all of them.
+    let claimed = 65_536 + MOST_EVENTS;
+    let log = log_bytes(1, &vec![vertical(); claimed]);
+    assert_eq!(log[1..5], [0x58, 0x1B, 1, 0]);
+    assert_refused(&[1, 0, 0], &log, ANSWER_BYTES * claimed, END_BYTES, 12);
 }
 
 #[test]
 fn a_log_has_5_and_9n_bytes_and_no_other_length() {
-    for count in [0usize, 1, 2, 3, 10, 255, 256, MOST_EVENTS] {
+    let small = [0usize, 1, 2, 3, 10, 255, 256];
+    let older = [OLDER_MOST_EVENTS, OLDER_MOST_EVENTS + 1];
+    let limit = [MOST_EVENTS - 1, MOST_EVENTS];
+    for count in [&small[..], &older, &limit].concat() {
         let right = LOG_HEADER_BYTES + EVENT_BYTES * count;
         for length in [right - 1, right, right + 1, right + EVENT_BYTES] {
             let mut bytes = vec![0; length];
@@ -187,25 +291,28 @@ fn a_log_has_5_and_9n_bytes_and_no_other_length() {
                     13
                 }
             };
-            let refusal = read_log(&bytes).err().map_or(0, |refusal| refusal.number());
-            assert_eq!(refusal, number);
+            assert_eq!(log_refusal(&bytes), number);
         }
     }
 }
 
 #[test]
 fn each_answer_stands_at_18_times_its_index() {
-    // Sixty address writes and reads: answer 2i + 1 holds the byte i.
-    let events: Vec<_> = (0..60)
-        .flat_map(|i| [write(c::ADDRESS, i), read(c::ADDRESS)])
-        .collect();
-    let mut answers = vec![0xEE; ANSWER_BYTES * events.len()];
-    let mut end = vec![0xEE; END_BYTES];
-    let result = run(&[1, 0, 0], &log_bytes(1, &events), &mut answers, &mut end);
-    assert_eq!(result, 6);
-    let mut expected = vec![0; ANSWER_BYTES * events.len()];
-    for i in 0..60 {
-        expected[ANSWER_BYTES * (2 * i + 1) + 1] = i as u8;
+    // Address writes and reads, the longest log's too, whose answers have
+    // 126,000 bytes: answer 2i + 1 holds the low byte of i.
+    for (pairs, last) in [(60, 59), (MOST_EVENTS / 2, 0xAB)] {
+        let events: Vec<_> = (0..pairs)
+            .flat_map(|i| [write(c::ADDRESS, i as u8), read(c::ADDRESS)])
+            .collect();
+        let mut answers = vec![0xEE; ANSWER_BYTES * events.len()];
+        let mut end = vec![0xEE; END_BYTES];
+        let result = run(&[1, 0, 0], &log_bytes(1, &events), &mut answers, &mut end);
+        assert_eq!(result, 6);
+        assert_eq!(end[..6], [1, 1, 0, 0x0C, 0x03, last]);
+        let mut expected = vec![0; ANSWER_BYTES * events.len()];
+        for i in 0..pairs {
+            expected[ANSWER_BYTES * (2 * i + 1) + 1] = i as u8;
+        }
+        assert_eq!(answers, expected);
     }
-    assert_eq!(answers, expected);
 }

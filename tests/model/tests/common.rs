@@ -1,5 +1,5 @@
-//! What the test files share beside the kit: a bench around one state, a run
-//! with its own buffers, and a header and snapshots that are refused.
+//! What the test files share beside the kit: a bench around one state, runs with
+//! buffers that fit or of any size, and a header and snapshots that are refused.
 
 use kit::{log_bytes, place_count, snapshot_bytes};
 use kit::{ANSWER_BYTES, END_BYTES, MOST_EVENTS, NOT_BUILT};
@@ -131,6 +131,33 @@ pub fn play(chip: u8, snapshot: &[u8], events: &[Event]) -> Played {
         .map(|bytes| bytes.try_into().unwrap())
         .collect();
     Played { answers, end }
+}
+
+/// Runs with buffers of these sizes; gives the result and both buffers.
+pub fn run_with(
+    snapshot: &[u8],
+    log: &[u8],
+    answer_bytes: usize,
+    end_bytes: usize,
+) -> (u64, Vec<u8>, Vec<u8>) {
+    let mut answers = vec![0xA5; answer_bytes];
+    let mut end = vec![0x5A; end_bytes];
+    let result = run(snapshot, log, &mut answers, &mut end);
+    (result, answers, end)
+}
+
+/// The run must be refused with this number, length 0, no byte changed.
+pub fn assert_refused(
+    snapshot: &[u8],
+    log: &[u8],
+    answer_bytes: usize,
+    end_bytes: usize,
+    number: u8,
+) {
+    let (result, answers, end) = run_with(snapshot, log, answer_bytes, end_bytes);
+    assert_eq!(result, 65_536 * u64::from(number));
+    assert_eq!(answers, vec![0xA5; answer_bytes]);
+    assert_eq!(end, vec![0x5A; end_bytes]);
 }
 
 /// A log's header that claims one event more than a log may have; no event

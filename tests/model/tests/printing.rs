@@ -1,9 +1,10 @@
 //! The printing program's output, from the library and from `model-replay`.
 
 use crate::common::header_over_the_limit;
+use kit::{c, read, rs, save, tick, vertical, write};
 use kit::{chip_of_round, highest_kind, log_bytes, not_built, Random, NOT_BUILT};
-use kit::{read, save, tick, vertical, write};
-use model::printed;
+use kit::{LOG_HEADER_BYTES, MOST_EVENTS, MOST_LOG_BYTES};
+use model::{printed, Event};
 use std::collections::BTreeMap;
 use std::io::Write;
 use std::process::{Command, Stdio};
@@ -122,6 +123,124 @@ fn the_program_prints_what_the_library_prints() {
         let text = printed(&log);
         assert_eq!(text.lines().count(), 151);
         assert_eq!(printed_by_program(&log), text);
+    }
+}
+
+/// Writes before the ticks of [`grey_log`]: the read mask, the command, the
+/// address and 256 triples.
+const GREY_WRITES: usize = 2 + 2 + 1 + 3 * 256;
+
+/// A chip 1 log as long as a log may be. It fills every palette entry e with
+/// the grey e, e, e; then tick k shows the entries k mod 256 and k / 256, so no
+/// two ticks have the same answer.
+fn grey_log() -> Vec<u8> {
+    let mut events: Vec<Event> = vec![
+        write(c::ADDRESS, 4),
+        write(c::CONTROL, 0xFF),
+        write(c::ADDRESS, 6),
+        write(c::CONTROL, 0x40),
+        write(c::ADDRESS, 0),
+    ];
+    events.extend((0..=255).flat_map(|entry| [write(c::PALETTE, entry); 3]));
+    assert_eq!(events.len(), GREY_WRITES);
+    let ticks = 0..MOST_EVENTS - GREY_WRITES;
+    events.extend(ticks.map(|k| tick([k as u8, (k / 256) as u8, 0, 0, 0, 0, 0, 1])));
+    log_bytes(1, &events)
+}
+
+/// The last line of [`grey_log`]: 769 places. Entries 1 to 255 have their grey
+/// at places 3 to 767; the address is back at 0; then 782 and 783 hold FFh, and
+/// 784 and 786 have FFh and 40h.
+fn grey_end() -> String {
+    let mut line = String::from("010103");
+    for place in (3..=767).chain([782, 783, 784, 786]) {
+        line += &format!("{:02x}{:02x}", place % 256, place / 256);
+    }
+    for entry in 1..=255 {
+        line += &format!("{entry:02x}").repeat(3);
+    }
+    line + "ffffff40"
+}
+
+#[test]
+fn the_longest_log_prints_7001_lines() {
+    let log = grey_log();
+    assert_eq!(log.len(), MOST_LOG_BYTES);
+    let text = printed(&log);
+    assert!(text.ends_with('\n'));
+    let lines: Vec<&str> = text.lines().collect();
+    assert_eq!(lines.len(), 7001);
+    for (index, line) in lines[..MOST_EVENTS].iter().enumerate() {
+        let expected = match index.checked_sub(GREY_WRITES) {
+            None => "0".repeat(36),
+            Some(k) => {
+                let greys = [k % 256, k / 256].map(|grey| format!("{grey:02x}").repeat(3));
+                format!("000401{}{}{}", greys[0], greys[1], "0".repeat(18))
+            }
+        };
+        assert_eq!(*line, expected, "line {index}");
+    }
+    assert_eq!(lines[MOST_EVENTS], grey_end());
+    // Four ticks by hand: 0, 1, 256 and the last, 6,226 (24 x 256 + 82).
+    assert_eq!(lines[773], "000401000000000000000000000000000000");
+    assert_eq!(lines[774], "000401010101000000000000000000000000");
+    assert_eq!(lines[1029], "000401000000010101000000000000000000");
+    assert_eq!(lines[6999], "000401525252181818000000000000000000");
+    assert!(printed_by_program(&log) == text, "the program's lines");
+}
+
+#[test]
+fn the_longest_log_of_chip_2_prints_7001_lines() {
+    // Line 2i + 1 has the address just written, the low byte of i.
+    let events: Vec<Event> = (0..MOST_EVENTS / 2)
+        .flat_map(|i| [write(rs::WRITE_MODE, i as u8), read(rs::WRITE_MODE)])
+        .collect();
+    let log = log_bytes(2, &events);
+    let text = printed(&log);
+    let lines: Vec<&str> = text.lines().collect();
+    assert_eq!(lines.len(), 7001);
+    for i in 0..MOST_EVENTS / 2 {
+        assert_eq!(lines[2 * i], "0".repeat(36), "line {}", 2 * i);
+        let read_line = format!("00{:02x}{}", i % 256, "0".repeat(32));
+        assert_eq!(lines[2 * i + 1], read_line, "line {}", 2 * i + 1);
+    }
+    // The last address: 3,499 is 13 x 256 + 171.
+    assert_eq!(lines[6999], "00ab00000000000000000000000000000000");
+    assert_eq!(lines[7000], "0201000003ab");
+    assert!(printed_by_program(&log) == text, "the program's lines");
+}
+
+#[test]
+fn one_event_or_one_byte_too_many_prints_12_or_13() {
+    let over = log_bytes(1, &vec![vertical(); MOST_EVENTS + 1]);
+    let mut long = log_bytes(1, &vec![vertical(); MOST_EVENTS]);
+    assert_eq!(printed(&long).lines().count(), 7001);
+    long.push(0);
+    for (input, expected) in [(over, "refused 12\n"), (long, "refused 13\n")] {
+        assert_eq!(printed(&input), expected);
+        assert_eq!(printed_by_program(&input), expected);
+    }
+}
+
+#[test]
+fn an_input_longer_than_any_log_prints_the_number_that_its_bytes_give() {
+    let [a, b, c, d] = (MOST_EVENTS as u32).to_le_bytes();
+    let cases = [
+        (vec![NOT_BUILT, a, b, c, d], "refused 11\n"),
+        (header_over_the_limit(NOT_BUILT), "refused 11\n"),
+        (header_over_the_limit(1), "refused 12\n"),
+        (vec![2, a, b, 1, 0], "refused 12\n"),
+        (vec![2, a, b, c, d], "refused 13\n"),
+        (vec![1, 0, 0, 0, 0], "refused 13\n"),
+    ];
+    for (header, expected) in cases {
+        assert_eq!(header.len(), LOG_HEADER_BYTES);
+        for length in [MOST_LOG_BYTES + 1, 65_536, 65_537, 200_000] {
+            let mut input = header.clone();
+            input.resize(length, 0xFF);
+            assert_eq!(printed(&input), expected);
+            assert_eq!(printed_by_program(&input), expected);
+        }
     }
 }
 

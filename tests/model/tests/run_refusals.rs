@@ -1,32 +1,11 @@
 //! Refusals of a run: the snapshot's, the log's, 26, 30, 31, each alone, in
 //! every combination of groups, and in order inside each group.
 
-use crate::common::{header_over_the_limit, snapshot_with};
+use crate::common::{assert_refused, header_over_the_limit, run_with, snapshot_with};
 use kit::{chip_of_round, highest_kind, log_bytes, not_built};
 use kit::{read, save, tick, vertical, write, Random, CHIPS, NOT_BUILT};
 use kit::{ANSWER_BYTES, END_BYTES, MOST_EVENTS};
-use model::{kind, read_log, run, Event};
-
-/// Runs with buffers of these sizes; gives the result and both buffers.
-fn run_with(
-    snapshot: &[u8],
-    log: &[u8],
-    answer_bytes: usize,
-    end_bytes: usize,
-) -> (u64, Vec<u8>, Vec<u8>) {
-    let mut answers = vec![0xA5; answer_bytes];
-    let mut end = vec![0x5A; end_bytes];
-    let result = run(snapshot, log, &mut answers, &mut end);
-    (result, answers, end)
-}
-
-/// The run must be refused with this number, length 0, no byte changed.
-fn assert_refused(snapshot: &[u8], log: &[u8], answer_bytes: usize, end_bytes: usize, number: u8) {
-    let (result, answers, end) = run_with(snapshot, log, answer_bytes, end_bytes);
-    assert_eq!(result, 65_536 * u64::from(number));
-    assert_eq!(answers, vec![0xA5; answer_bytes]);
-    assert_eq!(end, vec![0x5A; end_bytes]);
-}
+use model::{kind, read_log, Event};
 
 fn assert_accepted(snapshot: &[u8], log: &[u8], answer_bytes: usize, end_bytes: usize) {
     let (result, _, _) = run_with(snapshot, log, answer_bytes, end_bytes);
@@ -40,7 +19,8 @@ fn assert_log_refused(log: &[u8], number: u8) {
         read_log(log).map_err(|refusal| refusal.number()),
         Err(number)
     );
-    assert_refused(&[1, 0, 0], log, 100_000, END_BYTES, number);
+    let answer_bytes = ANSWER_BYTES * (MOST_EVENTS + 1);
+    assert_refused(&[1, 0, 0], log, answer_bytes, END_BYTES, number);
 }
 
 fn odd_kind(kind: u8) -> Event {

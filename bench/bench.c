@@ -18,7 +18,7 @@
 #include "palette.h"
 #include "plain.h"
 
-enum { LOGS = 40, DEFAULT_REPEATS = 25 };
+enum { LOGS = 40, MIX_EVENTS = 3000, DEFAULT_REPEATS = 25 };
 
 typedef uint64_t run_function(const uint8_t *, size_t, const uint8_t *, size_t,
                               uint8_t *, size_t, uint8_t *, size_t);
@@ -321,7 +321,7 @@ static bool bench_mixes(unsigned repeats)
     printf("chip  mix           plain ns/event  palette_run ns/event  ratio  goal\n");
     for (const struct chip *chip = chips; chip < chips + CHIPS; chip++) {
         for (unsigned i = 0; i < sizeof mixes / sizeof mixes[0]; i++) {
-            make_inputs(&mixes[i], chip, PALETTE_MOST_EVENTS);
+            make_inputs(&mixes[i], chip, MIX_EVENTS);
             if (!all_alike(mixes[i].name, chip))
                 return false;
             struct times times = measure(repeats);
@@ -337,7 +337,7 @@ static bool bench_mixes(unsigned repeats)
 
 static bool bench_growth(unsigned repeats)
 {
-    static const size_t sizes[] = {100, 300, 1000, PALETTE_MOST_EVENTS};
+    static const size_t sizes[] = {100, 300, 1000, MIX_EVENTS, PALETTE_MOST_EVENTS};
     printf("\nmixed logs by length\n");
     printf("chip  events  plain us/run  palette_run us/run  palette_run ns/event  ratio\n");
     for (const struct chip *chip = chips; chip < chips + CHIPS; chip++) {
@@ -364,7 +364,7 @@ int main(int argc, char **argv)
         return 2;
     }
     printf("%d logs of %d events in each mix, the smallest of %d repeats, both programs in turn.\n",
-           LOGS, PALETTE_MOST_EVENTS, repeats);
+           LOGS, MIX_EVENTS, repeats);
     printf("Both buffers are cleared before each run, outside the time taken.\n");
     printf("Of 1,000 events, writes, reads, ticks, vertical periods and saves:\n");
     for (unsigned i = 0; i < sizeof mixes / sizeof mixes[0]; i++)

@@ -18,7 +18,7 @@ extern "C" {
 
 /* The version: three numbers for #if, and the text "major.minor.patch". */
 #define PALETTE_VERSION_MAJOR 0
-#define PALETTE_VERSION_MINOR 2
+#define PALETTE_VERSION_MINOR 3
 #define PALETTE_VERSION_PATCH 0
 #define PALETTE_VERSION                                                        \
     PALETTE_VERSION_TEXT(PALETTE_VERSION_MAJOR, PALETTE_VERSION_MINOR,         \
@@ -78,8 +78,10 @@ enum palette_kind {
 /* How long a log of so many events is. */
 #define PALETTE_LOG_BYTES(events)                                              \
     (PALETTE_LOG_HEADER_BYTES + PALETTE_EVENT_BYTES * (size_t)(events))
-/* The most events that a log may hold, and how long it is then. */
-#define PALETTE_MOST_EVENTS 3000
+/* The most events that a log may hold, and how long it is then: 63,005 bytes.
+ * Before version 0.3.0 it was 3,000 events, and an older library refuses a
+ * longer log with PALETTE_REFUSED_LOG_COUNT. */
+#define PALETTE_MOST_EVENTS 7000
 #define PALETTE_MOST_LOG_BYTES                                                 \
     (PALETTE_LOG_HEADER_BYTES + PALETTE_EVENT_BYTES * PALETTE_MOST_EVENTS)
 
@@ -89,7 +91,10 @@ enum palette_kind {
 
 /* Event i's answer starts at byte PALETTE_ANSWER_BYTES * i. */
 #define PALETTE_ANSWER_BYTES 18
-/* An answer buffer of this size is enough for every log. */
+/* An answer buffer of this size is enough for every log. In a program that was
+ * compiled with a header before version 0.3.0 it has 54,000 bytes: for a log of
+ * more than 3,000 events this library refuses that buffer with
+ * PALETTE_REFUSED_ANSWER_BUFFER. */
 #define PALETTE_MOST_ANSWER_BYTES (PALETTE_ANSWER_BYTES * PALETTE_MOST_EVENTS)
 
 /*

@@ -3,6 +3,10 @@
 #include "files.h"
 #include "palette.h"
 
+/* A number of the header as text. The first expands it. */
+#define TEXT(number) TEXT_(number)
+#define TEXT_(number) #number
+
 const char *refusal_in_words(unsigned refusal)
 {
     switch ((enum palette_refusal)refusal) {
@@ -23,7 +27,7 @@ const char *refusal_in_words(unsigned refusal)
     case PALETTE_REFUSED_LOG_CHIP:
         return "the log names no known chip";
     case PALETTE_REFUSED_LOG_COUNT:
-        return "the log has too many events";
+        return "the log has more than " TEXT(PALETTE_MOST_EVENTS) " events";
     case PALETTE_REFUSED_LOG_LENGTH:
         return "the log's length doesn't fit its count";
     case PALETTE_REFUSED_LOG_KIND:

@@ -6,8 +6,8 @@ use crate::compared::{class, Class, Sweep};
 use crate::damage::{damage_length, damaged_log, damaged_snapshot};
 use crate::damage::{several_faults, two_indexed_faults, LOG_FAULTS, SNAPSHOT_FAULTS};
 use kit::{address_place, largest, log_bytes, nonzero, place_count, snapshot_bytes};
-use kit::{c, read, save, tick, vertical, write, Random, CHIPS};
-use model::{Event, END_BUFFER_BYTES, MOST_EVENTS};
+use kit::{c, read, save, tick, vertical, write, Random, CHIPS, OLDER_MOST_EVENTS};
+use model::{Event, ANSWER_BYTES, END_BUFFER_BYTES, MOST_EVENTS};
 
 pub const RANDOM: &[Class<Case>] = &[
     class("logs, chip 1", 700, |random| any_log(random, 1)),
@@ -17,7 +17,7 @@ pub const RANDOM: &[Class<Case>] = &[
     class("colours written and read round FFh", 150, round_the_end),
     class("saves between all other events", 150, saves_between),
     class("full snapshots", 60, full_snapshot),
-    class("logs at the limit and one more", 6, limit),
+    class("long logs", 6, long_log),
     class("damaged snapshot", 1200, |random| {
         let (chip, fault) = (random.chip(), random.pick(&SNAPSHOT_FAULTS));
         let snapshot = damaged_snapshot(random, chip, fault);
@@ -118,10 +118,10 @@ fn full_snapshot(random: &mut Random) -> Case {
     Case::exact(snapshot, log_bytes(chip, &events), random)
 }
 
-/// One event under the limit, the limit, and one over it.
-fn limit(random: &mut Random) -> Case {
+/// More events than an older library takes.
+fn long_log(random: &mut Random) -> Case {
     let chip = random.chip();
-    let count = random.pick(&[MOST_EVENTS - 1, MOST_EVENTS, MOST_EVENTS, MOST_EVENTS + 1]);
+    let count = OLDER_MOST_EVENTS + 1 + random.below(MOST_EVENTS - OLDER_MOST_EVENTS);
     let events = random.events(chip, count);
     let snapshot = random.snapshot(chip);
     Case::exact(snapshot, log_bytes(chip, &events), random)
@@ -230,6 +230,14 @@ pub const SWEEPS: &[Sweep<Case>] = &[
     Sweep {
         name: "every chip byte",
         cases: every_chip_byte,
+    },
+    Sweep {
+        name: "logs at the limit and one more",
+        cases: limits,
+    },
+    Sweep {
+        name: "every bit of the count",
+        cases: every_count_bit,
     },
     Sweep {
         name: "empty byte strings, null or not",
@@ -347,6 +355,50 @@ fn every_chip_byte(random: &mut Random) -> Vec<Case> {
             cases.push(Case::exact(vec![chip, 0, 0], log, random));
             let log = log_bytes(chip, &[save()]);
             cases.push(Case::exact(vec![other, 0, 0], log, random));
+        }
+    }
+    cases
+}
+
+/// An event less than the limit, the limit and one more, and so for the limit of
+/// older libraries; the answer buffer short by a byte, exact, longer by a byte,
+/// and as large as the longest log of an older library needs it.
+fn limits(random: &mut Random) -> Vec<Case> {
+    let mut cases = Vec::new();
+    for chip in CHIPS {
+        for most in [OLDER_MOST_EVENTS, MOST_EVENTS] {
+            for count in most - 1..=most + 1 {
+                let log = log_bytes(chip, &random.events(chip, count));
+                let needed = ANSWER_BYTES * count;
+                let older = ANSWER_BYTES * OLDER_MOST_EVENTS;
+                for answers_len in [needed - 1, needed, needed + 1, older] {
+                    let snapshot = random.snapshot(chip);
+                    cases.push(Case {
+                        answers_len,
+                        ..Case::exact(snapshot, log.clone(), random)
+                    });
+                }
+            }
+        }
+    }
+    cases
+}
+
+/// Each bit of the count by itself and beside a count of 1. The log is as long as
+/// its lowest byte says, as its lowest two say, and as all four say, if there are
+/// such logs.
+fn every_count_bit(random: &mut Random) -> Vec<Case> {
+    let mut cases = Vec::new();
+    for chip in CHIPS {
+        for bit in 0..32 {
+            for count in [1u32 << bit, 1 << bit | 1] {
+                for told in [count & 0xFF, count & 0xFFFF, count] {
+                    let told = (told as usize).min(MOST_EVENTS + 1);
+                    let mut log = log_bytes(chip, &vec![save(); told]);
+                    log[1..5].copy_from_slice(&count.to_le_bytes());
+                    cases.push(Case::exact(random.snapshot(chip), log, random));
+                }
+            }
         }
     }
     cases

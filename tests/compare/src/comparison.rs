@@ -227,16 +227,16 @@ impl Comparison {
         };
         let mut random = self.random(input.name, 0);
         for number in 0..input.inputs {
-            let (bytes, piece) = (input.make)(&mut random, number);
-            if replay::wrong(program, &bytes, piece).is_none() {
+            let (bytes, arrival) = (input.make)(&mut random, number);
+            if replay::wrong(program, &bytes, arrival).is_none() {
                 self.report.checked(input.name);
                 continue;
             }
             let small = self.shrunk(RUNS_FOR_ONE, |tries| {
-                replay::shrunk(program, &bytes, piece, tries)
+                replay::shrunk(program, &bytes, arrival, tries)
             });
             let failure = Failure {
-                what: replay::wrong(program, &small, piece).unwrap_or_default(),
+                what: replay::wrong(program, &small, arrival).unwrap_or_default(),
                 size: small.len(),
                 described: replay::described(&small),
             };

@@ -1,8 +1,9 @@
 //! Runs a program on an input and takes what it prints.
 
+use std::fs::{self, File};
 use std::io::{self, Read, Write};
 use std::path::Path;
-use std::process::{Command, Stdio};
+use std::process::{self, Command, Stdio};
 use std::thread;
 use std::time::Duration;
 
@@ -36,6 +37,22 @@ pub struct Ended {
 /// What the program prints for this input.
 pub fn printed_by(program: &Path, bytes: &[u8], piece: usize) -> Result<Vec<u8>, String> {
     Ok(ended(&mut Command::new(program), bytes, piece)?.output)
+}
+
+/// What the program prints for this input if standard input is a file.
+pub fn printed_of_a_file(program: &Path, bytes: &[u8]) -> Result<Vec<u8>, String> {
+    let fault = |fault: io::Error| format!("{}: {fault}", program.display());
+    let name = format!("palette-input-{}", process::id());
+    let path = std::env::temp_dir().join(name);
+    fs::write(&path, bytes).map_err(fault)?;
+    let opened = File::open(&path);
+    fs::remove_file(&path).map_err(fault)?;
+    let mut command = Command::new(program);
+    let ended = (command.stdin(opened.map_err(fault)?).output()).map_err(fault)?;
+    match ended.status.code() {
+        Some(_) => Ok(ended.stdout),
+        None => Err(format!("the program died: {}", ended.status)),
+    }
 }
 
 /// How the program ends with these words behind its name and this input.

@@ -2,17 +2,29 @@
 
 use crate::case::Case;
 use crate::damage::{damaged_log, LOG_FAULTS};
-use crate::program::{printed_by, WHOLE};
-use kit::{hexadecimal, highest_kind, log_bytes, read, write, Random, CHIPS};
+use crate::program::{printed_by, printed_of_a_file, WHOLE};
+use kit::{hexadecimal, highest_kind, log_bytes, read, vertical, write, Random, CHIPS};
+use kit::{MOST_LOG_BYTES, OLDER_MOST_EVENTS};
 use model::{Event, MOST_EVENTS};
 use std::path::Path;
+
+/// The events that the program plays before it prints them.
+const PIECE: usize = 128;
+
+/// How an input gets to the program.
+#[derive(Clone, Copy)]
+pub enum Arrival {
+    /// Through a pipe, written in pieces of so many bytes.
+    Pipe(usize),
+    /// As a file.
+    File,
+}
 
 /// A sort of input, and how many of them are tried.
 pub struct Input {
     pub name: &'static str,
     pub inputs: usize,
-    /// The bytes, and the size of the pieces that they arrive in.
-    pub make: fn(&mut Random, usize) -> (Vec<u8>, usize),
+    pub make: fn(&mut Random, usize) -> (Vec<u8>, Arrival),
 }
 
 pub const INPUTS: &[Input] = &[
@@ -27,9 +39,14 @@ pub const INPUTS: &[Input] = &[
         make: damaged,
     },
     Input {
+        name: "replay: of any length up to the limit",
+        inputs: 2 * LENGTHS.len(),
+        make: of_length,
+    },
+    Input {
         name: "replay: longer than any buffer",
-        inputs: 24,
-        make: very_long,
+        inputs: 36,
+        make: long_arriving,
     },
     Input {
         name: "replay: in small pieces through a pipe",
@@ -38,24 +55,50 @@ pub const INPUTS: &[Input] = &[
     },
 ];
 
-fn accepted(random: &mut Random, number: usize) -> (Vec<u8>, usize) {
+fn accepted(random: &mut Random, _: usize) -> (Vec<u8>, Arrival) {
     let chip = random.chip();
-    let count = match number {
-        0 => 0,
-        1 | 2 => MOST_EVENTS,
-        _ => random.below(200),
-    };
-    (log_bytes(chip, &random.events(chip, count)), WHOLE)
+    let count = random.below(200);
+    let log = log_bytes(chip, &random.events(chip, count));
+    (log, Arrival::Pipe(WHOLE))
 }
 
-fn damaged(random: &mut Random, number: usize) -> (Vec<u8>, usize) {
+fn damaged(random: &mut Random, number: usize) -> (Vec<u8>, Arrival) {
     let chip = random.chip();
     let fault = LOG_FAULTS[number % LOG_FAULTS.len()];
-    (damaged_log(random, chip, fault), WHOLE)
+    (damaged_log(random, chip, fault), Arrival::Pipe(WHOLE))
 }
 
-/// A log or a header with much more behind it than belongs there.
-pub fn very_long(random: &mut Random, number: usize) -> (Vec<u8>, usize) {
+/// No event, about a piece, about two, the limit of older programs and one more,
+/// and about the limit.
+const LENGTHS: [usize; 13] = [
+    0,
+    1,
+    PIECE - 1,
+    PIECE,
+    PIECE + 1,
+    2 * PIECE - 1,
+    2 * PIECE,
+    2 * PIECE + 1,
+    OLDER_MOST_EVENTS,
+    OLDER_MOST_EVENTS + 1,
+    MOST_EVENTS - 1,
+    MOST_EVENTS,
+    MOST_EVENTS + 1,
+];
+
+/// A log of each length, through a pipe and as a file.
+fn of_length(random: &mut Random, number: usize) -> (Vec<u8>, Arrival) {
+    let chip = random.chip();
+    let count = LENGTHS[number / 2 % LENGTHS.len()];
+    let arrival = match number % 2 {
+        0 => Arrival::Pipe(WHOLE),
+        _ => Arrival::File,
+    };
+    (log_bytes(chip, &random.events(chip, count)), arrival)
+}
+
+/// A log or a header with more behind it than the longest log has.
+pub fn very_long(random: &mut Random, number: usize) -> Vec<u8> {
     let chip = random.chip();
     let mut bytes = match number % 4 {
         0 => log_bytes(chip, &random.events(chip, MOST_EVENTS)),
@@ -63,18 +106,32 @@ pub fn very_long(random: &mut Random, number: usize) -> (Vec<u8>, usize) {
         2 => vec![chip, 0xFF, 0xFF, 0xFF, 0xFF],
         _ => vec![random.chip_not_built(), 0, 0, 0, 0],
     };
-    let more = random.pick(&[1, 40_000, 70_000, 300_000, 2_000_000]);
-    bytes.resize(bytes.len() + more, random.pick(&[0, 1]));
-    (bytes, WHOLE)
+    let more = random.pick(&[1, 2, 4096, 300_000, 2_000_000]);
+    bytes.resize(MOST_LOG_BYTES + more, random.pick(&[0, 1]));
+    bytes
 }
 
-fn in_pieces(random: &mut Random, number: usize) -> (Vec<u8>, usize) {
-    let (bytes, _) = match number % 3 {
-        0 => damaged(random, number / 3),
-        1 => accepted(random, number / 3 + 3),
-        _ => accepted(random, 1),
+/// Whole through a pipe, in pieces, and as a file.
+fn long_arriving(random: &mut Random, number: usize) -> (Vec<u8>, Arrival) {
+    let bytes = very_long(random, number / 3);
+    let arrival = match number % 3 {
+        0 => Arrival::Pipe(WHOLE),
+        1 => Arrival::Pipe(random.pick(&[5, 1000, 4097, MOST_LOG_BYTES])),
+        _ => Arrival::File,
     };
-    (bytes, random.pick(&[1, 2, 3, 7, 19, 4097]))
+    (bytes, arrival)
+}
+
+fn in_pieces(random: &mut Random, number: usize) -> (Vec<u8>, Arrival) {
+    let bytes = match number % 3 {
+        0 => damaged(random, number / 3).0,
+        1 => accepted(random, number / 3).0,
+        _ => {
+            let chip = random.chip();
+            log_bytes(chip, &random.events(chip, MOST_EVENTS))
+        }
+    };
+    (bytes, Arrival::Pipe(random.pick(&[1, 2, 3, 7, 19, 4097])))
 }
 
 /// Each register read at each position of a triple, which is then finished and
@@ -102,7 +159,8 @@ fn reads_inside_triples() -> Vec<Event> {
 /// Logs for a run without proof, which an interpreter plays too: for each chip
 /// an accepted log and one of no events, whose end snapshot is the fresh
 /// chip's, one event of each kind with no operand byte 0, then logs with each
-/// refusal.
+/// refusal, the header of a log at the limit and past it, and the longest log
+/// with a byte more.
 pub fn samples(random: &mut Random) -> Vec<(String, Vec<u8>)> {
     let mut samples = Vec::new();
     for chip in CHIPS {
@@ -123,13 +181,24 @@ pub fn samples(random: &mut Random) -> Vec<(String, Vec<u8>)> {
             samples.push((name, damaged_log(random, chip, fault)));
         }
     }
+    for count in [MOST_EVENTS, MOST_EVENTS + 1] {
+        let header = [&[1][..], &(count as u32).to_le_bytes()].concat();
+        samples.push((format!("header-of-{count}-events"), header));
+    }
+    let mut longer = log_bytes(1, &vec![vertical(); MOST_EVENTS]);
+    longer.push(0);
+    samples.push(("longest-and-a-byte".into(), longer));
     samples
 }
 
 /// What is wrong with the program's output, if anything.
-pub fn wrong(program: &Path, bytes: &[u8], piece: usize) -> Option<String> {
+pub fn wrong(program: &Path, bytes: &[u8], arrival: Arrival) -> Option<String> {
     let expected = model::printed(bytes).into_bytes();
-    match printed_by(program, bytes, piece) {
+    let printed = match arrival {
+        Arrival::Pipe(piece) => printed_by(program, bytes, piece),
+        Arrival::File => printed_of_a_file(program, bytes),
+    };
+    match printed {
         Err(fault) => Some(fault),
         Ok(output) if output == expected => None,
         Ok(output) => Some(first_difference(&output, &expected)),
@@ -153,7 +222,7 @@ fn first_difference(output: &[u8], expected: &[u8]) -> String {
 
 /// A shorter input that is still wrong, found by taking events away, in at most
 /// `tries` runs, which are taken off.
-pub fn shrunk(program: &Path, bytes: &[u8], piece: usize, tries: &mut usize) -> Vec<u8> {
+pub fn shrunk(program: &Path, bytes: &[u8], arrival: Arrival, tries: &mut usize) -> Vec<u8> {
     let case = Case {
         snapshot: vec![1, 0, 0],
         log: bytes.to_vec(),
@@ -162,7 +231,7 @@ pub fn shrunk(program: &Path, bytes: &[u8], piece: usize, tries: &mut usize) -> 
         layout: 0,
         null_if_empty: false,
     };
-    let mut fails = |case: &Case| wrong(program, &case.log, piece).is_some();
+    let mut fails = |case: &Case| wrong(program, &case.log, arrival).is_some();
     crate::shrink::shrunk(&case, tries, &mut fails).log
 }
 

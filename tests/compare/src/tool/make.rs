@@ -134,8 +134,7 @@ fn faults_at_once(random: &mut Random) -> (Vec<u8>, Vec<u8>) {
 pub fn long_input(_: &Tool, random: &mut Random, number: usize) -> Made {
     let turn = number / 2;
     if number % 2 == 0 {
-        let (log, _) = very_long(random, turn);
-        return Ok(Input::of(Sort::Log, log));
+        return Ok(Input::of(Sort::Log, very_long(random, turn)));
     }
     let chip = chip_of_round(turn / 4);
     let snapshot = long_snapshot(random, chip, turn);

@@ -92,9 +92,10 @@ enum palette_kind {
 /* Event i's answer starts at byte PALETTE_ANSWER_BYTES * i. */
 #define PALETTE_ANSWER_BYTES 18
 /* An answer buffer of this size is enough for every log. In a program that was
- * compiled with a header before version 0.3.0 it has 54,000 bytes: for a log of
- * more than 3,000 events this library refuses that buffer with
- * PALETTE_REFUSED_ANSWER_BUFFER. */
+ * compiled with a header before version 0.3.0 it has 54,000 bytes, and for a log
+ * of 3,001 to 7,000 events this library refuses it with
+ * PALETTE_REFUSED_ANSWER_BUFFER; or with PALETTE_REFUSED_LOG_LENGTH if that
+ * program reads only PALETTE_MOST_LOG_BYTES + 1 bytes of a log, then 27,006. */
 #define PALETTE_MOST_ANSWER_BYTES (PALETTE_ANSWER_BYTES * PALETTE_MOST_EVENTS)
 
 /*

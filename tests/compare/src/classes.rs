@@ -360,7 +360,7 @@ fn every_chip_byte(random: &mut Random) -> Vec<Case> {
     cases
 }
 
-/// An event less than the limit, the limit and one more, and so for the limit of
+/// One event less than the limit, the limit and one more, and so for the limit of
 /// older libraries; the answer buffer short by a byte, exact, longer by a byte,
 /// and as large as the longest log of an older library needs it.
 fn limits(random: &mut Random) -> Vec<Case> {
@@ -385,8 +385,8 @@ fn limits(random: &mut Random) -> Vec<Case> {
 }
 
 /// Each bit of the count by itself and beside a count of 1. The log is as long as
-/// its lowest byte says, as its lowest two say, and as all four say, if there are
-/// such logs.
+/// the count's lowest byte says, as its lowest two say, and as all four say, but
+/// has at most one event over the limit.
 fn every_count_bit(random: &mut Random) -> Vec<Case> {
     let mut cases = Vec::new();
     for chip in CHIPS {

@@ -125,9 +125,9 @@ pub fn damaged_log(random: &mut Random, chip: u8, fault: Refusal) -> Vec<u8> {
 /// A count over the limit, its length right or not.
 fn damage_log_count(random: &mut Random, bytes: &mut Vec<u8>) {
     let most = MOST_EVENTS as u32;
-    // Of the larger ones the low half alone would be accepted, but of the last.
+    // The low half of each larger one but the last would be accepted by itself.
     let large = [0x1_0001, 0x0100_0001, 0x1_0000 + most, u32::MAX];
-    let near = [most + 1, most + 2, most + 1096];
+    let near = [most + 1, most + 2, 0x2000];
     let is_near = random.one_in(2);
     let count = random.pick(if is_near { &near } else { &large });
     bytes[1..LOG_HEADER].copy_from_slice(&count.to_le_bytes());

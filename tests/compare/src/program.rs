@@ -1,7 +1,7 @@
 //! Runs a program on an input and takes what it prints.
 
 use std::fs::{self, File};
-use std::io::{self, Read, Write};
+use std::io::{self, Read, Seek, Write};
 use std::path::Path;
 use std::process::{self, Command, Stdio};
 use std::thread;
@@ -42,17 +42,29 @@ pub fn printed_by(program: &Path, bytes: &[u8], piece: usize) -> Result<Vec<u8>,
 /// What the program prints for this input if standard input is a file.
 pub fn printed_of_a_file(program: &Path, bytes: &[u8]) -> Result<Vec<u8>, String> {
     let fault = |fault: io::Error| format!("{}: {fault}", program.display());
-    let name = format!("palette-input-{}", process::id());
-    let path = std::env::temp_dir().join(name);
-    fs::write(&path, bytes).map_err(fault)?;
-    let opened = File::open(&path);
-    fs::remove_file(&path).map_err(fault)?;
+    let file = unnamed_file(bytes).map_err(fault)?;
     let mut command = Command::new(program);
-    let ended = (command.stdin(opened.map_err(fault)?).output()).map_err(fault)?;
+    command.stdin(file).stderr(Stdio::inherit());
+    let ended = command.output().map_err(fault)?;
     match ended.status.code() {
         Some(_) => Ok(ended.stdout),
         None => Err(format!("the program died: {}", ended.status)),
     }
+}
+
+/// A file of these bytes that is gone when it is closed.
+fn unnamed_file(bytes: &[u8]) -> io::Result<File> {
+    let path = std::env::temp_dir().join(format!("palette-input-{}", process::id()));
+    let mut options = File::options();
+    let mut file = options
+        .read(true)
+        .write(true)
+        .create_new(true)
+        .open(&path)?;
+    fs::remove_file(&path)?;
+    file.write_all(bytes)?;
+    file.rewind()?;
+    Ok(file)
 }
 
 /// How the program ends with these words behind its name and this input.

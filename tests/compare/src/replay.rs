@@ -39,12 +39,12 @@ pub const INPUTS: &[Input] = &[
         make: damaged,
     },
     Input {
-        name: "replay: of any length up to the limit",
+        name: "replay: lengths about a piece and the limits",
         inputs: 2 * LENGTHS.len(),
         make: of_length,
     },
     Input {
-        name: "replay: longer than any buffer",
+        name: "replay: longer than any log",
         inputs: 36,
         make: long_arriving,
     },
@@ -89,7 +89,7 @@ const LENGTHS: [usize; 13] = [
 /// A log of each length, through a pipe and as a file.
 fn of_length(random: &mut Random, number: usize) -> (Vec<u8>, Arrival) {
     let chip = random.chip();
-    let count = LENGTHS[number / 2 % LENGTHS.len()];
+    let count = LENGTHS[number / 2];
     let arrival = match number % 2 {
         0 => Arrival::Pipe(WHOLE),
         _ => Arrival::File,
@@ -159,8 +159,8 @@ fn reads_inside_triples() -> Vec<Event> {
 /// Logs for a run without proof, which an interpreter plays too: for each chip
 /// an accepted log and one of no events, whose end snapshot is the fresh
 /// chip's, one event of each kind with no operand byte 0, then logs with each
-/// refusal, the header of a log at the limit and past it, and the longest log
-/// with a byte more.
+/// refusal; of chip 1 the header of a log at the limit and past it, and the
+/// longest log with a byte more.
 pub fn samples(random: &mut Random) -> Vec<(String, Vec<u8>)> {
     let mut samples = Vec::new();
     for chip in CHIPS {

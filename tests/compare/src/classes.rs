@@ -6,7 +6,8 @@ use crate::compared::{class, Class, Sweep};
 use crate::damage::{damage_length, damaged_log, damaged_snapshot};
 use crate::damage::{several_faults, two_indexed_faults, LOG_FAULTS, SNAPSHOT_FAULTS};
 use kit::{address_place, largest, log_bytes, nonzero, place_count, snapshot_bytes};
-use kit::{c, read, save, tick, vertical, write, Random, CHIPS, OLDER_MOST_EVENTS};
+use kit::{c, read, save, tick, vertical, write, Random, CHIPS};
+use kit::{LOG_HEADER_BYTES, OLDER_MOST_EVENTS};
 use model::{Event, ANSWER_BYTES, END_BUFFER_BYTES, MOST_EVENTS};
 
 pub const RANDOM: &[Class<Case>] = &[
@@ -395,7 +396,7 @@ fn every_count_bit(random: &mut Random) -> Vec<Case> {
                 for told in [count & 0xFF, count & 0xFFFF, count] {
                     let told = (told as usize).min(MOST_EVENTS + 1);
                     let mut log = log_bytes(chip, &vec![save(); told]);
-                    log[1..5].copy_from_slice(&count.to_le_bytes());
+                    log[1..LOG_HEADER_BYTES].copy_from_slice(&count.to_le_bytes());
                     cases.push(Case::exact(random.snapshot(chip), log, random));
                 }
             }

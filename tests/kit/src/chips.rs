@@ -7,7 +7,7 @@
 use model::kind;
 
 /// The chip bytes of the chips that are built.
-pub const CHIPS: [u8; 2] = [1, 2];
+pub const CHIPS: [u8; 3] = [1, 2, 3];
 
 /// The chip whose ticks have output currents.
 pub const CURRENTS_CHIP: u8 = 1;
@@ -57,6 +57,24 @@ pub mod p2 {
     pub const COUNT: usize = 774;
 }
 
+/// Place numbers of chip 3. Register n has the places from
+/// `REGISTER_PLACES` x n on: red, green, blue, EXT, REP.
+pub mod p3 {
+    pub const REGISTERS: usize = 16;
+    pub const REGISTER_PLACES: usize = 5;
+    /// Behind a register's first place.
+    pub const EXT: usize = 3;
+    /// Behind a register's first place.
+    pub const REP: usize = 4;
+    pub const LOAD_POSITION: usize = 80;
+    pub const HELD_RED: usize = 81;
+    /// EXT + 2 x REP.
+    pub const HELD_ATTRIBUTES: usize = 82;
+    /// Red; green and blue follow.
+    pub const COLOUR_BEFORE: usize = 83;
+    pub const COUNT: usize = 86;
+}
+
 /// The chip bytes that no chip has.
 pub fn not_built() -> impl Iterator<Item = u8> {
     (0..=255).filter(|chip| !CHIPS.contains(chip))
@@ -77,15 +95,39 @@ pub fn place_count(chip: u8) -> usize {
     match chip {
         1 => p1::COUNT,
         2 => p2::COUNT,
+        3 => p3::COUNT,
         _ => no_such_chip(chip),
     }
 }
 
-/// The place of a chip's address; its position follows.
+/// How many places the chip's table of colours has: they are the first ones.
+pub fn table_places(chip: u8) -> usize {
+    match chip {
+        1 => p1::ADDRESS,
+        2 => p2::ADDRESS,
+        3 => p3::LOAD_POSITION,
+        _ => no_such_chip(chip),
+    }
+}
+
+/// The places that say which colour or register the next access is for, and
+/// which part of it: address and position, or the load position.
+pub fn counter_places(chip: u8) -> &'static [usize] {
+    match chip {
+        1 => &[p1::ADDRESS, p1::POSITION],
+        2 => &[p2::ADDRESS, p2::POSITION],
+        3 => &[p3::LOAD_POSITION],
+        _ => no_such_chip(chip),
+    }
+}
+
+/// The place of the address, for the chips that have one; its position follows.
+/// [`counter_places`] is for every chip.
 pub fn address_place(chip: u8) -> usize {
     match chip {
         1 => p1::ADDRESS,
         2 => p2::ADDRESS,
+        3 => panic!("chip 3 has no address"),
         _ => no_such_chip(chip),
     }
 }
@@ -104,6 +146,10 @@ pub fn largest(chip: u8, place: usize) -> u8 {
         (2, p2::POSITION) => 2,
         (2, p2::DIRECTION) => 1,
         (2, _) => 255,
+        (3, 0..=79) if place % p3::REGISTER_PLACES >= p3::EXT => 1,
+        (3, p3::LOAD_POSITION) => 31,
+        (3, p3::HELD_ATTRIBUTES) => 3,
+        (3, _) => 15,
         _ => no_such_chip(chip),
     }
 }
@@ -111,20 +157,22 @@ pub fn largest(chip: u8, place: usize) -> u8 {
 /// The highest kind byte that a chip's events have.
 pub fn highest_kind(chip: u8) -> u8 {
     match chip {
-        1 | 2 => kind::SAVE,
+        1..=3 => kind::LOAD,
         _ => no_such_chip(chip),
     }
 }
 
-/// The operand bytes that an event of this kind uses.
+/// The operand bytes that an event of this kind uses, whether or not the chip
+/// then refuses the kind.
 pub fn used_bytes(chip: u8, kind: u8) -> &'static [usize] {
     match (chip, kind) {
-        (1 | 2, kind::WRITE) => &[0, 1],
-        (1 | 2, kind::READ) => &[0],
+        (1..=3, kind::WRITE | kind::LOAD) => &[0, 1],
+        (1..=3, kind::READ) => &[0],
         (1, kind::TICK) => &[0, 1, 2, 3, 4, 5, 6, 7],
         (2, kind::TICK) => &[0, 7],
-        (1 | 2, kind::VERTICAL | kind::SAVE) => &[],
-        (1 | 2, _) => panic!("chip {chip} has no events of kind {kind}"),
+        (3, kind::TICK) => &[0, 1, 7],
+        (1..=3, kind::VERTICAL | kind::SAVE) => &[],
+        (1..=3, _) => panic!("chip {chip} has no events of kind {kind}"),
         _ => no_such_chip(chip),
     }
 }
@@ -134,9 +182,13 @@ pub fn undefined_tick_bits(chip: u8) -> &'static [(usize, u8)] {
     match chip {
         1 => &[(5, 0xE0), (6, 0xE0), (7, 0xFC)],
         2 => &[(7, 0xFE)],
+        3 => &[(0, 0xF0), (1, 0xF0), (7, 0xFE)],
         _ => no_such_chip(chip),
     }
 }
+
+/// The same of chip 3's loads: DA and DB have 4 bits.
+pub const UNDEFINED_LOAD_BITS: [(usize, u8); 2] = [(0, 0xF0), (1, 0xF0)];
 
 pub(crate) fn no_such_chip(chip: u8) -> ! {
     panic!("chip {chip} isn't built")

@@ -37,11 +37,18 @@ pub fn save() -> Event {
     }
 }
 
+pub fn load(da: u8, db: u8) -> Event {
+    Event {
+        kind: kind::LOAD,
+        operand: [da, db, 0, 0, 0, 0, 0, 0],
+    }
+}
+
 /// Whether an event is of a sort.
 pub type Sort = fn(&Event) -> bool;
 
 pub fn is_access(event: &Event) -> bool {
-    event.kind == kind::WRITE || event.kind == kind::READ
+    matches!(event.kind, kind::WRITE | kind::READ | kind::LOAD)
 }
 
 pub fn is_display(event: &Event) -> bool {

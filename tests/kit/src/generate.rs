@@ -1,9 +1,9 @@
 //! Accepted states, snapshots and events, at random.
 
 use crate::bytes::{nonzero, snapshot_bytes};
-use crate::chips::{address_place, largest, no_such_chip, place_count, undefined_tick_bits};
-use crate::chips::{c, not_built, other_chips, p1, p2, rs, CHIPS};
-use crate::events::{read, save, tick, vertical, write};
+use crate::chips::{c, not_built, other_chips, p1, p2, p3, rs, CHIPS, UNDEFINED_LOAD_BITS};
+use crate::chips::{counter_places, largest, no_such_chip, place_count, undefined_tick_bits};
+use crate::events::{load, read, save, tick, vertical, write};
 use crate::random::Random;
 use crate::shuffle::riffle;
 use model::{Event, State};
@@ -39,11 +39,20 @@ impl Random {
         let mut places: Vec<u8> = (0..place_count(chip))
             .map(|place| self.value(chip, place, fill))
             .collect();
-        let address = address_place(chip);
-        places[address] = self.address();
-        places[address + 1] = self.up_to(2);
+        for &place in counter_places(chip) {
+            places[place] = self.counter(largest(chip, place));
+        }
         self.lively_registers(chip, &mut places);
         places
+    }
+
+    /// A counter's value. A counter of a whole byte is an address.
+    fn counter(&mut self, most: u8) -> u8 {
+        if most == 255 {
+            self.address()
+        } else {
+            self.index(usize::from(most) + 1) as u8
+        }
     }
 
     /// An accepted state's places, none of them 0; some are largest.
@@ -87,7 +96,29 @@ impl Random {
                     places[p2::MASK] = self.pick(&[255, 255, 0xAD, 0x0F]);
                 }
             }
+            3 => {
+                if lively {
+                    self.repeating_registers(places);
+                }
+            }
             _ => no_such_chip(chip),
+        }
+    }
+
+    /// Chip 3: colours that tell registers apart, a colour before that isn't
+    /// black, and from no register with REP 1 to all of them.
+    fn repeating_registers(&mut self, places: &mut [u8]) {
+        let repeating = self.pick(&[0, 25, 75, 90, 100]);
+        let (registers, others) = places.split_at_mut(p3::LOAD_POSITION);
+        for register in registers.chunks_exact_mut(p3::REGISTER_PLACES) {
+            for colour in &mut register[..p3::EXT] {
+                *colour = self.up_to(15);
+            }
+            register[p3::EXT] = self.up_to(1);
+            register[p3::REP] = u8::from(self.below(100) < repeating);
+        }
+        for colour in &mut others[p3::COLOUR_BEFORE - p3::LOAD_POSITION..] {
+            *colour = 1 + self.up_to(14);
         }
     }
 
@@ -120,7 +151,42 @@ impl Random {
         }
     }
 
-    /// An access of any chip.
+    /// An access that a log of this chip may hold, now and then of a kind that
+    /// the chip refuses.
+    pub fn access_on(&mut self, chip: u8) -> Event {
+        match chip {
+            1 | 2 if self.one_in(30) => self.load(),
+            1 | 2 => self.access(),
+            3 if self.one_in(10) => self.access(),
+            3 if self.one_in(12) => self.odd_load(),
+            3 => self.load(),
+            _ => no_such_chip(chip),
+        }
+    }
+
+    /// A load with no undefined bit.
+    pub fn load(&mut self) -> Event {
+        load(self.pins(), self.pins())
+    }
+
+    /// A load with an undefined bit set.
+    pub fn odd_load(&mut self) -> Event {
+        let mut load = self.load();
+        let (byte, bits) = self.pick(&UNDEFINED_LOAD_BITS);
+        load.operand[byte] |= self.bit_of(bits);
+        load
+    }
+
+    /// What DA or DB may have: 4 bits, often all of them 1.
+    fn pins(&mut self) -> u8 {
+        if self.one_in(6) {
+            15
+        } else {
+            self.up_to(15)
+        }
+    }
+
+    /// A write or a read.
     pub fn access(&mut self) -> Event {
         let selector = self.selector();
         if self.one_in(3) {
@@ -133,8 +199,25 @@ impl Random {
     }
 
     /// One access, or some that belong together: a whole colour, read or
-    /// written, or a register that the display looks at.
+    /// written, a register that the display looks at, or loads.
     pub fn burst(&mut self, chip: u8) -> Vec<Event> {
+        match chip {
+            1 | 2 => self.port_burst(chip),
+            3 => self.load_burst(),
+            _ => no_such_chip(chip),
+        }
+    }
+
+    /// One access, a register's two loads, or as many as the table has.
+    fn load_burst(&mut self) -> Vec<Event> {
+        match self.below(40) {
+            0 => (0..32).map(|_| self.load()).collect(),
+            1..=15 => (0..2).map(|_| self.load()).collect(),
+            _ => vec![self.access_on(3)],
+        }
+    }
+
+    fn port_burst(&mut self, chip: u8) -> Vec<Event> {
         match self.below(9) {
             0 | 1 => {
                 let triple = self.colour_write(chip);
@@ -145,7 +228,7 @@ impl Random {
                 self.interrupted(triple)
             }
             3 | 4 => self.register_write(chip),
-            _ => vec![self.access()],
+            _ => vec![self.access_on(chip)],
         }
     }
 
@@ -222,6 +305,11 @@ impl Random {
                 operand[0] = self.address();
                 operand[7] = self.pick(&[1, 1, 1, 0]);
             }
+            3 => {
+                operand[0] = self.pins();
+                operand[1] = self.pins();
+                operand[7] = self.pick(&[1, 1, 1, 1, 1, 0]);
+            }
             _ => no_such_chip(chip),
         }
         tick(operand)
@@ -249,7 +337,7 @@ impl Random {
     /// Any event that a log of this chip may hold.
     pub fn event(&mut self, chip: u8) -> Event {
         match self.below(10) {
-            0..=5 => self.access(),
+            0..=5 => self.access_on(chip),
             6..=8 => self.display(chip),
             _ => save(),
         }

@@ -17,11 +17,11 @@ mod random;
 mod shuffle;
 
 pub use bytes::{hexadecimal, log_bytes, nonzero, snapshot_bytes};
-pub use chips::{address_place, chip_of_round, highest_kind, largest, not_built};
-pub use chips::{c, p1, p2, rs, undefined_tick_bits, used_bytes, CHIPS, NOT_BUILT};
-pub use chips::{other_chips, place_count, CURRENTS_CHIP};
+pub use chips::{address_place, chip_of_round, counter_places, highest_kind, largest, not_built};
+pub use chips::{c, p1, p2, p3, rs, undefined_tick_bits, used_bytes, CHIPS, NOT_BUILT};
+pub use chips::{other_chips, place_count, table_places, CURRENTS_CHIP, UNDEFINED_LOAD_BITS};
 pub use events::{is_access, is_display, is_save, is_tick, only, Sort};
-pub use events::{read, save, tick, vertical, write};
+pub use events::{load, read, save, tick, vertical, write};
 pub use numbers::{ANSWER_BYTES, END_BYTES, EVENT_BYTES, LOG_HEADER_BYTES, MOST_EVENTS};
 pub use numbers::{CURRENTS_BYTES, MOST_LOG_BYTES, OLDER_MOST_EVENTS, OPERAND_BYTES};
 pub use random::Random;

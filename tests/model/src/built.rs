@@ -3,6 +3,7 @@
 
 use crate::chip1;
 use crate::chip2;
+use crate::chip3;
 
 /// A chip that is built.
 #[derive(Clone, Copy, Debug, PartialEq, Eq)]
@@ -11,6 +12,8 @@ pub(crate) enum Built {
     Chip1,
     /// The HD153129.
     Chip2,
+    /// The TMS34070.
+    Chip3,
 }
 
 /// The chip byte of a chip that isn't built, never one of a built chip.
@@ -24,6 +27,7 @@ pub(crate) fn named(chip: u8) -> Result<Built, NotBuilt> {
     match chip {
         1 => Ok(Built::Chip1),
         2 => Ok(Built::Chip2),
+        3 => Ok(Built::Chip3),
         _ => Err(NotBuilt { chip }),
     }
 }
@@ -34,6 +38,7 @@ impl Built {
         match self {
             Built::Chip1 => chip1::PLACES,
             Built::Chip2 => chip2::PLACES,
+            Built::Chip3 => chip3::PLACES,
         }
     }
 
@@ -42,6 +47,7 @@ impl Built {
         match self {
             Built::Chip1 => chip1::largest(place),
             Built::Chip2 => chip2::largest(place),
+            Built::Chip3 => chip3::largest(place),
         }
     }
 }

@@ -104,7 +104,7 @@ fn try_tick_currents_into(
 fn check_chip(state: &State) -> Result<(), Refusal> {
     match state {
         State::Chip1(_) => Ok(()),
-        State::Chip2(_) | State::NotBuilt(_) => Err(Refusal::CurrentsChip),
+        State::Chip2(_) | State::Chip3(_) | State::NotBuilt(_) => Err(Refusal::CurrentsChip),
     }
 }
 

@@ -1,17 +1,18 @@
-//! A second model of two video palette chips: the TLC34058 (chip 1) and the
-//! HD153129 (chip 2), with their snapshots, their logs, the run of a log, the
-//! output currents of a chip 1 tick, the painting accesses and the printing
-//! program's output.
+//! A second model of three video palette chips: the TLC34058 (chip 1), the
+//! HD153129 (chip 2) and the TMS34070 (chip 3), with their snapshots, their
+//! logs, the run of a log, the output currents of a chip 1 tick, the painting
+//! accesses and the printing program's output.
 //!
-//! It rests on document 01 (the scope paper, `01-scope.md`), on Notes 1 and 2 of
+//! It rests on document 01 (the scope paper, `01-scope.md`), on Notes 1 to 3 of
 //! document 02 (`02-change-requests.md`) and on the data sheets of the TLC34058
-//! (source document 000) and the HD153129 (source document 001) alone,
-//! independently of the code that it is compared with. Where a paper leaves two
-//! readings, the one taken is listed in `docs/MODEL-READINGS.md`.
+//! (source document 000), the HD153129 (source document 001) and the TMS34070
+//! (source document 003) alone, independently of the code that it is compared
+//! with. Where a paper leaves two readings, the one taken is listed in
+//! `docs/MODEL-READINGS.md`.
 //!
 //! The names are the data sheets': ADDR0-7 and ADDRa,b, RREG and GREG, read
 //! mask, blink mask, command register CR0-CR7, overlay registers, IOR, IOG and
-//! IOB, RS0 and RS1, CLT, pixel mask register.
+//! IOB, RS0 and RS1, CLT, pixel mask register, DA and DB, DATEN, EXT and REP.
 //!
 //! What a comparison needs:
 //!
@@ -31,6 +32,7 @@
 mod built;
 mod chip1;
 mod chip2;
+mod chip3;
 mod currents;
 mod event;
 mod log;
@@ -44,6 +46,7 @@ mod state;
 pub use built::NotBuilt;
 pub use chip1::Chip1;
 pub use chip2::Chip2;
+pub use chip3::{Chip3, Register};
 pub use currents::{tick_currents, tick_currents_into, Currents, CURRENTS, CURRENTS_OUT_BYTES};
 pub use event::{event, kind, Answer, Operand, ANSWER_BYTES};
 pub use log::{read_log, Event, Log, MOST_EVENTS};

@@ -9,8 +9,9 @@ use crate::state::State;
 /// The indices of the painting accesses of a log started from a snapshot. The
 /// pair is refused as a run would refuse it (20 to 25, 10 to 15, 26).
 ///
-/// Position, address and direction are reckoned from the snapshot and the
-/// earlier accesses alone: display events and saves are passed over.
+/// Position, address, direction and chip 3's load position are reckoned from
+/// the snapshot and the earlier accesses alone: display events and saves are
+/// passed over.
 pub fn painting_accesses(snapshot: &[u8], log: &[u8]) -> Result<Vec<usize>, Refusal> {
     let (mut state, log) = accepted_pair(snapshot, log)?;
     let mut painting = Vec::new();
@@ -29,10 +30,12 @@ pub fn painting_accesses(snapshot: &[u8], log: &[u8]) -> Result<Vec<usize>, Refu
 
 /// Whether an access paints if the chip doesn't refuse it.
 fn would_paint(state: &State, access: &Event) -> bool {
-    access.kind == kind::WRITE
-        && match state {
-            State::Chip1(chip) => chip.write_paints(access.operand[0]),
-            State::Chip2(chip) => chip.write_paints(access.operand[0]),
-            State::NotBuilt(_) => false,
-        }
+    let write = access.kind == kind::WRITE;
+    let selector = access.operand[0];
+    match state {
+        State::Chip1(chip) => write && chip.write_paints(selector),
+        State::Chip2(chip) => write && chip.write_paints(selector),
+        State::Chip3(chip) => access.kind == kind::LOAD && chip.load_paints(),
+        State::NotBuilt(_) => false,
+    }
 }

@@ -1,5 +1,6 @@
 //! The refusal table of document 01, refusal 12 with the limit of document 02's
-//! Note 2, and the refusal that Note 1 adds for the currents.
+//! Note 2, refusals 4, 5 and 14 with what Note 3 adds to them, and the refusal
+//! that Note 1 adds for the currents.
 
 /// A refusal, with the number that its document gives it, or the C header for
 /// the currents' call on byte strings.
@@ -13,9 +14,11 @@ pub enum Refusal {
     Address = 2,
     /// Chip 2: colour write in direction read, colour read in direction write.
     Direction = 3,
-    /// Tick: OL bits 5 to 7 or undefined level bits set.
+    /// Tick: OL bits 5 to 7 or undefined level bits set. Chip 3, load or tick:
+    /// DA or DB over 15.
     TickBits = 4,
-    /// Vertical period on chip 2.
+    /// An event that the chip doesn't have: vertical period on chip 2; load on
+    /// chips 1 and 2; write, read or vertical period on chip 3.
     Vertical = 5,
     /// Log under 5 bytes.
     LogShort = 10,
@@ -25,7 +28,7 @@ pub enum Refusal {
     LogCount = 12,
     /// Log's length not 5 + 9n; operand, lent for its currents, not 8 bytes.
     LogLength = 13,
-    /// Event kind over 4.
+    /// Event kind over 5.
     Kind = 14,
     /// Unused operand byte not 0.
     UnusedByte = 15,

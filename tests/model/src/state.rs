@@ -3,6 +3,7 @@
 use crate::built::{named, Built, NotBuilt};
 use crate::chip1::Chip1;
 use crate::chip2::Chip2;
+use crate::chip3::Chip3;
 use crate::refusal::Refusal;
 
 /// A chip's state. It can name a chip that isn't built, and calls on a state
@@ -14,6 +15,8 @@ pub enum State {
     Chip1(Chip1),
     /// An HD153129.
     Chip2(Chip2),
+    /// A TMS34070.
+    Chip3(Chip3),
     /// A chip that isn't built: its chip byte and no places.
     NotBuilt(NotBuilt),
 }
@@ -24,6 +27,7 @@ impl State {
         match named(chip).ok()? {
             Built::Chip1 => Some(State::Chip1(Chip1::fresh())),
             Built::Chip2 => Some(State::Chip2(Chip2::fresh())),
+            Built::Chip3 => Some(State::Chip3(Chip3::fresh())),
         }
     }
 
@@ -32,6 +36,7 @@ impl State {
         match self {
             State::Chip1(_) => 1,
             State::Chip2(_) => 2,
+            State::Chip3(_) => 3,
             State::NotBuilt(other) => other.chip(),
         }
     }
@@ -42,6 +47,7 @@ impl State {
         match self {
             State::Chip1(chip) => chip.places(),
             State::Chip2(chip) => chip.places(),
+            State::Chip3(chip) => chip.places(),
             State::NotBuilt(_) => Vec::new(),
         }
     }
@@ -56,6 +62,7 @@ impl State {
         Some(match named(chip) {
             Ok(Built::Chip1) => State::Chip1(Chip1::from_places(places)),
             Ok(Built::Chip2) => State::Chip2(Chip2::from_places(places)),
+            Ok(Built::Chip3) => State::Chip3(Chip3::from_places(places)),
             Err(other) => State::NotBuilt(other),
         })
     }
@@ -70,6 +77,7 @@ impl State {
         match self {
             State::Chip1(_) => Ok(Built::Chip1),
             State::Chip2(_) => Ok(Built::Chip2),
+            State::Chip3(_) => Ok(Built::Chip3),
             State::NotBuilt(_) => Err(Refusal::SnapshotChip),
         }
     }

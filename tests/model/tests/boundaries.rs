@@ -1,8 +1,9 @@
-//! Boundary values: addresses 3, 4, 7, 8 and FFh, position 2, count 0, the limit
-//! and the older limit, each byte of the count, lengths one off.
+//! Boundary values: addresses 3, 4, 7, 8 and FFh, position 2, load positions 0, 1,
+//! 30 and 31, DA and DB 15 and 16, count 0, the limit and the older limit, each
+//! byte of the count, lengths one off.
 
 use crate::common::{assert_refused, play, run_with, Bench};
-use kit::{c, log_bytes, p1, p2, read, rs, vertical, write};
+use kit::{c, load, log_bytes, p1, p2, p3, read, rs, vertical, write};
 use kit::{ANSWER_BYTES, END_BYTES, EVENT_BYTES, LOG_HEADER_BYTES};
 use kit::{MOST_EVENTS, MOST_LOG_BYTES, OLDER_MOST_EVENTS};
 use model::{read_log, run};
@@ -145,8 +146,78 @@ fn chip_2_address_wraps_after_a_triple_at_ff() {
 }
 
 #[test]
+fn chip_3_loads_at_the_edge_positions() {
+    // Position before, position after, the register that is stored, if any.
+    for (before, after, stored) in [
+        (0, 1, None),
+        (1, 2, Some(0)),
+        (2, 3, None),
+        (3, 4, Some(1)),
+        (29, 30, Some(14)),
+        (30, 31, None),
+        (31, 0, Some(15)),
+    ] {
+        let start = [(p3::LOAD_POSITION, before), (p3::HELD_RED, 4)];
+        let mut chip = Bench::with_places(3, &start);
+        let mut expected = chip.state.places();
+        expected[p3::LOAD_POSITION] = after;
+        match stored {
+            Some(register) => {
+                expected[5 * register..5 * register + 5].copy_from_slice(&[4, 15, 2, 0, 0]);
+            }
+            None => (expected[p3::HELD_RED], expected[p3::HELD_ATTRIBUTES]) = (15, 2),
+        }
+        assert_eq!(chip.load(15, 2), 0);
+        assert_eq!(chip.state.places(), expected);
+    }
+}
+
+#[test]
+fn chip_3_pins_of_15_and_16() {
+    for position in [0, 1, 30, 31] {
+        for (da, db, refusal) in [
+            (15, 15, 0),
+            (16, 15, 4),
+            (15, 16, 4),
+            (16, 16, 4),
+            (0, 16, 4),
+            (16, 0, 4),
+        ] {
+            let mut chip = Bench::with_places(3, &[(p3::LOAD_POSITION, position)]);
+            let before = chip.state.clone();
+            assert_eq!(chip.load(da, db), refusal);
+            assert_eq!(chip.state == before, refusal == 4);
+        }
+    }
+}
+
+#[test]
+fn the_longest_log_of_loads_goes_round_218_times() {
+    // 7,000 loads are 218 x 32 + 24: the next is register 12's first.
+    let loads: Vec<_> = (0..MOST_EVENTS)
+        .map(|index| load((index / 32 % 16) as u8, 0))
+        .collect();
+    let played = play(3, &[3, 0, 0], &loads);
+    assert_eq!(played.answers, [[0; ANSWER_BYTES]; MOST_EVENTS]);
+    // Round 218 (10 mod 16) reached registers 0 to 11, round 217 the others.
+    let mut expected = Vec::new();
+    for register in 0..16 {
+        let value = if register < 12 { 10 } else { 9 };
+        expected.extend([(5 * register, value), (5 * register + 1, value)]);
+    }
+    expected.extend([(80, 24), (81, 10)]);
+    assert_eq!(played.end, kit::snapshot_bytes(3, &expected));
+}
+
+#[test]
 fn a_log_of_no_events_gives_the_start_snapshot_back() {
-    for snapshot in [vec![1, 0, 0], vec![2, 0, 0], vec![2, 1, 0, 9, 0, 63]] {
+    for snapshot in [
+        vec![1, 0, 0],
+        vec![2, 0, 0],
+        vec![2, 1, 0, 9, 0, 63],
+        vec![3, 0, 0],
+        vec![3, 2, 0, 80, 0, 85, 0, 31, 15],
+    ] {
         let played = play(snapshot[0], &snapshot, &[]);
         assert_eq!(played.answers.len(), 0);
         assert_eq!(played.end, snapshot);

@@ -1,7 +1,7 @@
 //! What the test files share beside the kit: a bench around one state, runs with
 //! buffers that fit or of any size, and a header and snapshots that are refused.
 
-use kit::{log_bytes, place_count, snapshot_bytes};
+use kit::{log_bytes, p3, place_count, snapshot_bytes};
 use kit::{ANSWER_BYTES, END_BYTES, MOST_EVENTS, NOT_BUILT};
 use model::{event, kind, run, Answer, Event, Operand, State};
 
@@ -64,6 +64,19 @@ impl Bench {
         byte
     }
 
+    /// Chip 3: a load's refusal or 0. A load answers nothing else.
+    pub fn load(&mut self, da: u8, db: u8) -> u8 {
+        let answer = self.event(kind::LOAD, [da, db, 0, 0, 0, 0, 0, 0]);
+        assert_eq!(answer[1..], [0; ANSWER_BYTES - 1]);
+        answer[0]
+    }
+
+    pub fn load_all(&mut self, loads: &[(u8, u8)]) {
+        for &(da, db) in loads {
+            assert_eq!(self.load(da, db), 0);
+        }
+    }
+
     pub fn vertical_periods(&mut self, count: usize) {
         for _ in 0..count {
             assert_eq!(self.event(kind::VERTICAL, [0; 8]), [0; ANSWER_BYTES]);
@@ -84,6 +97,25 @@ impl Bench {
         assert_eq!(answer[..3], [0, 1, 1]);
         assert_eq!(answer[6..], [0; ANSWER_BYTES - 6]);
         [answer[3], answer[4], answer[5]]
+    }
+
+    /// Chip 3: pixels DA and DB with DATEN high. Gives their colours.
+    pub fn show3(&mut self, da: u8, db: u8) -> [[u8; 3]; 2] {
+        let answer = self.event(kind::TICK, [da, db, 0, 0, 0, 0, 0, 1]);
+        assert_eq!(answer[..2], [0, 2]);
+        assert_eq!(answer[2] & 1, 1);
+        assert_eq!(answer[9..], [0; ANSWER_BYTES - 9]);
+        [
+            [answer[3], answer[4], answer[5]],
+            [answer[6], answer[7], answer[8]],
+        ]
+    }
+
+    /// Chip 3: pixels DA and DB with DATEN low.
+    pub fn blank3(&mut self, da: u8, db: u8) {
+        let answer = self.event(kind::TICK, [da, db, 0, 0, 0, 0, 0, 0]);
+        assert_eq!(answer[..2], [0, 2]);
+        assert_eq!(answer[2..], [0; ANSWER_BYTES - 2]);
     }
 
     pub fn place(&self, place: usize) -> u8 {
@@ -109,6 +141,27 @@ impl Bench {
         for (component, value) in colour.into_iter().enumerate() {
             self.set(3 * entry + component, value);
         }
+    }
+}
+
+/// Chip 3's registers: red, green, blue, EXT and REP of each.
+impl Bench {
+    pub fn register(&self, register: usize) -> [u8; 5] {
+        let first = p3::REGISTER_PLACES * register;
+        let places = self.state.places();
+        places[first..first + p3::REGISTER_PLACES]
+            .try_into()
+            .unwrap()
+    }
+
+    pub fn set_register(&mut self, register: usize, values: [u8; 5]) {
+        for (part, value) in values.into_iter().enumerate() {
+            self.set(p3::REGISTER_PLACES * register + part, value);
+        }
+    }
+
+    pub fn colour_before(&self) -> [u8; 3] {
+        self.state.places()[p3::COLOUR_BEFORE..].try_into().unwrap()
     }
 }
 

@@ -4,7 +4,7 @@
 //! out from the papers by hand, or by a search through all whole numbers.
 
 use crate::common::{snapshot_with, Bench};
-use kit::{not_built, p1, p2, snapshot_bytes, Random, ANSWER_BYTES, END_BYTES, NOT_BUILT};
+use kit::{not_built, p1, p2, p3, snapshot_bytes, Random, ANSWER_BYTES, END_BYTES, NOT_BUILT};
 use model::{event, kind, save, tick_currents, tick_currents_into, Answer, Operand, State};
 use std::collections::{BTreeMap, BTreeSet};
 
@@ -343,6 +343,13 @@ fn refusal_40_every_chip_but_1() {
     let mut chip = Bench::with_places(2, &[(p2::MASK, 0xFF), (p2::DIRECTION, 1)]);
     chip.set_entry(3, [63; 3]);
     assert_refused(&chip.state, [3, 0, 0, 0, 0, 0, 0, 1], 40);
+    // A chip 3 whose tick would show colours and store one.
+    let mut chip = Bench::with_places(3, &[(p3::COLOUR_BEFORE, 9)]);
+    chip.set_register(3, [15, 15, 15, 1, 0]);
+    assert_refused(&chip.state, [3, 3, 0, 0, 0, 0, 0, 1], 40);
+    assert_refused(&chip.state, [3, 3, 0, 0, 0, 0, 0, 0], 40);
+    // 40 comes before chip 3's 4.
+    assert_refused(&chip.state, [16, 3, 0, 0, 0, 0, 0, 1], 40);
 }
 
 #[test]
@@ -352,6 +359,11 @@ fn refusal_40_comes_before_25() {
         assert_eq!(save(&chip.state).map_err(|r| r.number()), Err(25));
         assert_refused(&chip.state, [0; 8], 40);
         assert_refused(&chip.state, one_byte(7, 4), 40);
+    }
+    for place in [0, p3::LOAD_POSITION, p3::COLOUR_BEFORE] {
+        let chip = Bench::with_places(3, &[(place, 255)]);
+        assert_eq!(save(&chip.state).map_err(|r| r.number()), Err(25));
+        assert_refused(&chip.state, [0; 8], 40);
     }
 }
 
@@ -400,11 +412,17 @@ fn refusal_4_each_undefined_bit() {
 
 #[test]
 fn every_combination_gives_the_first_refusal() {
-    let sound = [Bench::fresh(1), Bench::fresh(2), Bench::not_built(3)];
+    let sound = [
+        Bench::fresh(1),
+        Bench::fresh(2),
+        Bench::fresh(3),
+        Bench::not_built(NOT_BUILT),
+    ];
     // A chip that isn't built has no places, so no value is too large.
     let unsound = [
         Bench::with_places(1, &[(p1::POSITION, 3)]),
         Bench::with_places(2, &[(p2::POSITION, 3)]),
+        Bench::with_places(3, &[(p3::LOAD_POSITION, 32)]),
     ];
     let mut tried = 0;
     for (benches, value_fault) in [(&sound[..], 0), (&unsound[..], 25)] {
@@ -421,7 +439,7 @@ fn every_combination_gives_the_first_refusal() {
             }
         }
     }
-    assert_eq!(tried, 5 * 2);
+    assert_eq!(tried, 7 * 2);
 }
 
 /// A random tick of chip 1; one in four has an undefined bit set.
@@ -514,9 +532,13 @@ fn other_chips_are_refused_whatever_their_tick_would_answer() {
         let state = if random.one_in(4) {
             Bench::not_built(random.pick(&others)).state
         } else {
-            random.state(2)
+            let chip = random.pick(&[2, 3]);
+            random.state(chip)
         };
         let mut operand = random_tick(&mut random);
+        if state.chip() == 3 {
+            operand[0] &= 15;
+        }
         if random.one_in(2) {
             operand[1..7].fill(0);
         }
@@ -714,7 +736,7 @@ fn refusal_4_sits_in_the_answer_of_the_call_on_byte_strings() {
 #[test]
 fn every_combination_of_faults_gives_the_first_refusal_of_the_call() {
     let mut tried = 0;
-    for (chip, chip_fault) in [(1, 0), (2, 40)] {
+    for (chip, chip_fault) in [(1, 0), (2, 40), (3, 40)] {
         for snapshot_fault in [0, 20, 21, 22, 23, 24, 25] {
             let snapshot = snapshot_with(snapshot_fault, chip);
             for (operand, operand_fault) in [(&BLACK_TICK[..], 0), (&BLACK_TICK[..7], 13)] {
@@ -739,7 +761,7 @@ fn every_combination_of_faults_gives_the_first_refusal_of_the_call() {
             }
         }
     }
-    assert_eq!(tried, 2 * 7 * 2 * 2 * 2);
+    assert_eq!(tried, 3 * 7 * 2 * 2 * 2);
 }
 
 #[test]
@@ -759,7 +781,9 @@ fn neighbours_in_the_order_of_the_calls_refusals() {
         (longer, good, [23, 24]),
         (snapshot_bytes(1, &[(789, 0)]), good, [24, 25]),
         (snapshot_bytes(2, &[(5, 64)]), good, [25, 40]),
+        (snapshot_bytes(3, &[(5, 16)]), good, [25, 40]),
         (vec![2, 0, 0], operand_short, [40, 13]),
+        (vec![3, 0, 0], operand_short, [40, 13]),
         (vec![1, 0, 0], operand_and_out_short, [13, 30]),
         (vec![1, 0, 0], out_and_end_short, [30, 31]),
     ];
@@ -773,7 +797,7 @@ fn neighbours_in_the_order_of_the_calls_refusals() {
 }
 
 #[test]
-fn refusal_40_of_the_call_is_chip_2s_and_21_every_other_chips() {
+fn refusal_40_of_the_call_is_chip_2s_and_3s_and_21_every_other_chips() {
     for chip in not_built() {
         assert_call_refused(&[chip, 0, 0], &BLACK_TICK, OUT_BYTES, END_BYTES, 21);
     }
@@ -788,6 +812,9 @@ fn refusal_40_of_the_call_is_chip_2s_and_21_every_other_chips() {
         assert_call_refused(&[2, 0, 0], operand, out_bytes, end_bytes, 40);
         let painted = snapshot_bytes(2, &[(0, 63), (773, 255)]);
         assert_call_refused(&painted, operand, out_bytes, end_bytes, 40);
+        assert_call_refused(&[3, 0, 0], operand, out_bytes, end_bytes, 40);
+        let loaded = snapshot_bytes(3, &[(0, 15), (85, 15)]);
+        assert_call_refused(&loaded, operand, out_bytes, end_bytes, 40);
     }
 }
 

@@ -1,15 +1,18 @@
 //! Demand 3 on seeded random logs: two logs with the same accesses in the same
 //! order and the same display events in the same order, shuffled together
-//! freely, with saves anywhere, give every access the same answer and end with
-//! the same snapshot. If every painting access also has the same display
-//! events before it, every tick gets the same answer too.
+//! freely, with saves anywhere, give every access the same answer. On chips 1
+//! and 2 they end with the same snapshot. If every painting access also has the
+//! same display events before it, every tick gets the same answer too, and logs
+//! of chip 3 end with the same snapshot. Without that, their ends may differ at
+//! places 83 to 85, the colour before, and nowhere else.
 
 use crate::common::{play, Played};
 use kit::{before_painting, free_shuffle, painting_shuffle, with_saves, Random, Sort};
-use kit::{is_access, is_display, is_save, is_tick, log_bytes, only, p2, snapshot_bytes};
-use kit::{save as save_event, tick, vertical, write, ANSWER_BYTES, MOST_EVENTS};
-use model::{kind, painting_accesses, save, Answer, Event};
+use kit::{is_access, is_display, is_save, is_tick, log_bytes, only, p2, p3, snapshot_bytes};
+use kit::{load, save as save_event, tick, vertical, write, ANSWER_BYTES, MOST_EVENTS};
+use model::{kind, painting_accesses, restore, save, Answer, Event};
 use std::collections::BTreeMap;
+use std::ops::Range;
 
 /// How much of each class the random logs held, so that no test passes by
 /// being empty.
@@ -24,7 +27,13 @@ struct Census {
     ticks_with_colour: usize,
     vertical_periods: usize,
     pairs_with_other_ticks: usize,
+    pairs_with_other_ends: usize,
     pairs_breaking_the_condition: usize,
+    loads: usize,
+    /// Saves between a register's two loads.
+    saves_inside_a_register: usize,
+    /// Ticks between a register's two loads.
+    ticks_inside_a_register: usize,
 }
 
 impl Census {
@@ -36,6 +45,39 @@ impl Census {
         let coloured = |answer: &&Answer| answer[0] == 0 && answer[3..] != [0; ANSWER_BYTES - 3];
         self.ticks_with_colour += ticks.iter().filter(coloured).count();
     }
+
+    /// Counts what stands between an unrefused load and the next, if that one
+    /// paints.
+    fn count_inside_registers(&mut self, events: &[Event], answers: &[Answer], painting: &[usize]) {
+        for &second in painting {
+            let inside = events[..second].iter().zip(answers).rev();
+            let first = |event: &Event, answer: &Answer| event.kind == kind::LOAD && answer[0] == 0;
+            for (event, _) in inside.take_while(|(event, answer)| !first(event, answer)) {
+                self.saves_inside_a_register += usize::from(is_save(event));
+                self.ticks_inside_a_register += usize::from(is_tick(event));
+            }
+        }
+    }
+}
+
+/// The places that a tick moves: where ends may differ without the painting
+/// condition.
+fn places_that_ticks_move(chip: u8) -> Range<usize> {
+    match chip {
+        1 | 2 => 0..0,
+        3 => p3::COLOUR_BEFORE..p3::COUNT,
+        _ => panic!("what a tick of chip {chip} moves isn't listed"),
+    }
+}
+
+/// The end state's places, those that ticks move left out.
+fn other_places(chip: u8, end: &[u8]) -> Vec<(usize, u8)> {
+    let restored = restore(end);
+    assert_eq!(restored.refusal, None);
+    assert_eq!(restored.state.chip(), chip);
+    let moved = places_that_ticks_move(chip);
+    let places = restored.state.places().into_iter().enumerate();
+    places.filter(|(place, _)| !moved.contains(place)).collect()
 }
 
 fn answers_of(events: &[Event], played: &Played, wanted: Sort) -> Vec<Answer> {
@@ -56,7 +98,10 @@ fn check_pair(census: &mut Census, chip: u8, snapshot: &[u8], one: &[Event], two
         answers_of(one, &played_one, is_access),
         answers_of(two, &played_two, is_access)
     );
-    assert_eq!(played_one.end, played_two.end);
+    assert_eq!(
+        other_places(chip, &played_one.end),
+        other_places(chip, &played_two.end)
+    );
     let painting = |events| painting_accesses(snapshot, &log_bytes(chip, events)).unwrap();
     let (painting_one, painting_two) = (painting(one), painting(two));
     // Which accesses paint is a matter of the accesses alone.
@@ -68,10 +113,14 @@ fn check_pair(census: &mut Census, chip: u8, snapshot: &[u8], one: &[Event], two
     let ticks_one = answers_of(one, &played_one, is_tick);
     let ticks_two = answers_of(two, &played_two, is_tick);
     let displays_one = before_painting(one, &painting_one, is_display);
-    if displays_one == before_painting(two, &painting_two, is_display) {
+    let condition = displays_one == before_painting(two, &painting_two, is_display);
+    if condition {
         assert_eq!(ticks_one, ticks_two);
     } else {
         census.pairs_breaking_the_condition += 1;
+    }
+    if condition || places_that_ticks_move(chip).is_empty() {
+        assert_eq!(played_one.end, played_two.end);
     }
 
     let plain = |events| only(events, |event| !is_save(event));
@@ -81,7 +130,12 @@ fn check_pair(census: &mut Census, chip: u8, snapshot: &[u8], one: &[Event], two
     census.painting += painting_one.len();
     census.pairs_with_other_ticks += usize::from(ticks_one != ticks_two);
     census.vertical_periods += one.iter().filter(|e| e.kind == kind::VERTICAL).count();
+    census.pairs_with_other_ends += usize::from(played_one.end != played_two.end);
+    census.loads += one.iter().filter(|e| e.kind == kind::LOAD).count();
     census.count_answers(&played_one.answers, &ticks_one);
+    if chip == 3 {
+        census.count_inside_registers(one, &played_one.answers, &painting_one);
+    }
 }
 
 /// Runs `pairs` pairs on one chip, shuffled freely or under the condition.
@@ -115,12 +169,19 @@ fn assert_well_mixed(census: &Census, chip: u8) {
     assert!(census.ticks_with_colour > 2 * census.pairs);
     assert!(census.vertical_periods > census.pairs);
     let possible: &[u8] = match chip {
-        1 => &[1, 2, 4],
+        1 => &[1, 2, 4, 5],
         2 => &[1, 3, 4, 5],
+        3 => &[4, 5],
         _ => panic!("the refusals of chip {chip} aren't listed"),
     };
     assert!(census.refused.keys().eq(possible));
     assert!(census.refused.values().all(|&n| n > census.pairs / 4));
+    assert!(census.loads > census.pairs / 4);
+    if chip == 3 {
+        assert!(census.loads > 20 * census.pairs);
+        assert!(census.saves_inside_a_register > census.pairs);
+        assert!(census.ticks_inside_a_register > census.pairs);
+    }
 }
 
 #[test]
@@ -154,20 +215,43 @@ fn painting_shuffles_on_chip_2_keep_ticks_too() {
 }
 
 #[test]
+fn free_shuffles_on_chip_3_keep_accesses_and_the_end_but_the_colour_before() {
+    let census = census_of(0xD3_0009, 3, 300, 85, false);
+    assert_eq!(census.pairs, 300);
+    assert_well_mixed(&census, 3);
+    // The colour before differs only where the last pixels show a register that
+    // was moved past them, or repeat one.
+    assert!(census.pairs_with_other_ends > 15);
+}
+
+#[test]
+fn painting_shuffles_on_chip_3_keep_ticks_and_the_end_too() {
+    let census = census_of(0xD3_000A, 3, 300, 85, true);
+    assert_eq!(census.pairs_breaking_the_condition, 0);
+    assert_eq!(census.pairs_with_other_ticks, 0);
+    assert_eq!(census.pairs_with_other_ends, 0);
+    assert_well_mixed(&census, 3);
+}
+
+#[test]
 fn the_painting_condition_matters() {
-    for (seed, chip) in [(0xD3_0005, 1), (0xD3_0006, 2)] {
+    for (seed, chip) in [(0xD3_0005, 1), (0xD3_0006, 2), (0xD3_000B, 3)] {
         let census = census_of(seed, chip, 100, 85, false);
         // Only pairs that break the condition can have other ticks, and many
         // of them do (check_pair has compared the rest).
         assert!(census.pairs_breaking_the_condition > 75);
         assert!(census.pairs_with_other_ticks > 50);
         assert!(census.pairs_with_other_ticks <= census.pairs_breaking_the_condition);
+        // The end of a chip that ticks don't move never differs.
+        let moved = !places_that_ticks_move(chip).is_empty();
+        assert_eq!(census.pairs_with_other_ends > 0, moved);
+        assert!(census.pairs_with_other_ends <= census.pairs_breaking_the_condition);
     }
 }
 
 #[test]
 fn logs_near_the_limit_shuffle_alike() {
-    for (seed, chip) in [(0xD3_0007, 1), (0xD3_0008, 2)] {
+    for (seed, chip) in [(0xD3_0007, 1), (0xD3_0008, 2), (0xD3_000C, 3)] {
         let mut random = Random::seeded(seed);
         let mut census = Census::default();
         for _ in 0..3 {
@@ -210,6 +294,85 @@ fn a_tick_before_or_after_a_red_write_on_chip_2() {
     let after = play(2, &snapshot, &[write(1, 3), save_event(), shown]);
     assert_eq!(before.answers[0][..6], [0, 1, 1, 9, 8, 7]);
     assert_eq!(after.answers[2], before.answers[0]);
+    assert_eq!(before.end, after.end);
+}
+
+/// Chip 3: register 0 waits for its second load, with held red 5.
+fn second_load_to_come() -> Vec<u8> {
+    snapshot_bytes(3, &[(80, 1), (81, 5)])
+}
+
+/// One swap by hand: a tick on either side of a register's second load. The
+/// accesses agree, and neither the tick nor the end snapshot does, not even its
+/// length.
+#[test]
+fn a_tick_before_or_after_a_second_load_on_chip_3() {
+    let shown = tick([0, 0, 0, 0, 0, 0, 0, 1]);
+    let before = play(3, &second_load_to_come(), &[shown, load(6, 7)]);
+    let after = play(3, &second_load_to_come(), &[load(6, 7), shown]);
+    assert_eq!(before.answers[1], after.answers[0]);
+    assert_eq!(before.answers[0][..9], [0, 2, 1, 0, 0, 0, 0, 0, 0]);
+    assert_eq!(after.answers[1][..9], [0, 2, 1, 5, 6, 7, 5, 6, 7]);
+    let loaded = [(0, 5), (1, 6), (2, 7), (80, 2), (81, 5)];
+    let colour_before = [(83, 5), (84, 6), (85, 7)];
+    assert_eq!(before.end, snapshot_bytes(3, &loaded));
+    let both = [&loaded[..], &colour_before].concat();
+    assert_eq!(after.end, snapshot_bytes(3, &both));
+    assert_eq!([before.end.len(), after.end.len()], [18, 27]);
+}
+
+/// The same with ends of one length: register 0 had a colour already.
+#[test]
+fn ends_of_chip_3_can_differ_in_their_bytes_alone() {
+    let start = [(0, 1), (1, 2), (2, 3), (80, 1), (81, 5)];
+    let snapshot = snapshot_bytes(3, &start);
+    let shown = tick([9, 0, 0, 0, 0, 0, 0, 1]);
+    let before = play(3, &snapshot, &[shown, load(6, 7)]);
+    let after = play(3, &snapshot, &[load(6, 7), save_event(), shown]);
+    assert_eq!(before.end.len(), after.end.len());
+    let end = |red, green, blue| {
+        let loaded = [(0, 5), (1, 6), (2, 7), (80, 2), (81, 5)];
+        let colour_before = [(83, red), (84, green), (85, blue)];
+        snapshot_bytes(3, &[&loaded[..], &colour_before].concat())
+    };
+    assert_eq!(before.end, end(1, 2, 3));
+    assert_eq!(after.end, end(5, 6, 7));
+}
+
+/// One swap by hand: a first load and refused accesses don't paint, so ticks and
+/// the end stay as they are.
+#[test]
+fn a_tick_before_or_after_a_first_load_on_chip_3() {
+    let snapshot = snapshot_bytes(3, &[(0, 1), (1, 2), (2, 3), (3, 1)]);
+    let accesses = [load(16, 0), load(9, 3), write(0, 1)];
+    let shown = [tick([0, 0, 0, 0, 0, 0, 0, 1]), vertical()];
+    let before = play(3, &snapshot, &[&shown[..], &accesses].concat());
+    let after = play(
+        3,
+        &snapshot,
+        &[&accesses[..], &[save_event()], &shown].concat(),
+    );
+    assert_eq!(before.answers[0][..9], [0, 2, 7, 1, 2, 3, 1, 2, 3]);
+    assert_eq!(before.answers[..2], after.answers[4..]);
+    assert_eq!(before.answers[2..], after.answers[..3]);
+    let refusals: Vec<u8> = before.answers.iter().map(|answer| answer[0]).collect();
+    assert_eq!(refusals, [0, 5, 4, 0, 5]);
+    assert_eq!(before.end, after.end);
+}
+
+/// A later tick with its own colours makes the ends agree again, though the
+/// painting condition fails; the condition is enough, and not needed.
+#[test]
+fn ends_of_chip_3_can_agree_without_the_condition() {
+    let ticks = [
+        tick([0, 0, 0, 0, 0, 0, 0, 1]),
+        tick([1, 2, 0, 0, 0, 0, 0, 0]),
+    ];
+    let one = [ticks[0], load(6, 7), ticks[1]];
+    let two = [load(6, 7), ticks[0], ticks[1]];
+    let before = play(3, &second_load_to_come(), &one);
+    let after = play(3, &second_load_to_come(), &two);
+    assert_ne!(before.answers[0], after.answers[1]);
     assert_eq!(before.end, after.end);
 }
 

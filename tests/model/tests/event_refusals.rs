@@ -2,7 +2,8 @@
 //! alone and with others present. A refused event hands back the state it got.
 
 use crate::common::Bench;
-use kit::{highest_kind, largest, not_built, p1, p2, place_count, used_bytes, ANSWER_BYTES, CHIPS};
+use kit::{highest_kind, largest, not_built, place_count, used_bytes, ANSWER_BYTES, CHIPS};
+use kit::{p1, p2, p3};
 use model::{kind, Operand};
 
 /// The event must be refused with this number and change nothing.
@@ -28,7 +29,7 @@ fn one_byte(index: usize, value: u8) -> Operand {
 
 #[test]
 fn refusal_1_selectors_over_3() {
-    for chip in CHIPS {
+    for chip in [1, 2] {
         let bench = Bench::fresh(chip);
         for selector in 4..=255 {
             assert_refused(&bench, kind::WRITE, [selector, 9, 0, 0, 0, 0, 0, 0], 1);
@@ -129,6 +130,78 @@ fn refusal_4_each_undefined_bit_of_a_tick() {
         assert_refused(&chip2, kind::TICK, one_byte(7, 1 << bit), 4);
         assert_refused(&chip2, kind::TICK, one_byte(7, 1 | 1 << bit), 4);
     }
+    let chip3 = Bench::fresh(3);
+    for byte in [0, 1] {
+        for bit in 0..4 {
+            assert_accepted(&chip3, kind::TICK, one_byte(byte, 1 << bit));
+        }
+        for bit in 4..8 {
+            assert_refused(&chip3, kind::TICK, one_byte(byte, 1 << bit), 4);
+        }
+    }
+    assert_accepted(&chip3, kind::TICK, one_byte(7, 1));
+    for bit in 1..8 {
+        assert_refused(&chip3, kind::TICK, one_byte(7, 1 << bit), 4);
+        assert_refused(&chip3, kind::TICK, one_byte(7, 1 | 1 << bit), 4);
+    }
+}
+
+/// Two states of chip 3 in which a load or a tick would show: a first load and a
+/// second load to come, no place 0 besides.
+fn full_chip_3() -> [Bench; 2] {
+    [30, 31].map(|position| {
+        let mut bench = Bench::fresh(3);
+        for place in 0..p3::COUNT {
+            bench.set(place, largest(3, place));
+        }
+        bench.set(p3::LOAD_POSITION, position);
+        bench
+    })
+}
+
+#[test]
+fn refusal_4_da_or_db_over_15_on_chip_3() {
+    for bench in full_chip_3() {
+        for pins in 0..=255 {
+            for operand in [[pins, 15], [15, pins], [pins, pins]] {
+                let [da, db] = operand;
+                let load = [da, db, 0, 0, 0, 0, 0, 0];
+                let blanked = load;
+                let shown = [da, db, 0, 0, 0, 0, 0, 1];
+                for (event_kind, operand) in [
+                    (kind::LOAD, load),
+                    (kind::TICK, blanked),
+                    (kind::TICK, shown),
+                ] {
+                    if pins <= 15 {
+                        assert_accepted(&bench, event_kind, operand);
+                    } else {
+                        assert_refused(&bench, event_kind, operand, 4);
+                    }
+                }
+            }
+        }
+    }
+}
+
+#[test]
+fn refusal_4_every_level_byte_of_chip_3() {
+    for bench in full_chip_3() {
+        for levels in 0..=255 {
+            for pixel in [0, 15] {
+                let operand = [pixel, pixel, 0, 0, 0, 0, 0, levels];
+                if levels <= 1 {
+                    assert_accepted(&bench, kind::TICK, operand);
+                } else {
+                    assert_refused(&bench, kind::TICK, operand, 4);
+                }
+            }
+            // Two reasons for one number.
+            if levels > 1 {
+                assert_refused(&bench, kind::TICK, [16, 0, 0, 0, 0, 0, 0, levels], 4);
+            }
+        }
+    }
 }
 
 #[test]
@@ -138,7 +211,45 @@ fn refusal_5_vertical_period_on_chip_2() {
 }
 
 #[test]
-fn refusal_14_kinds_over_4() {
+fn refusal_5_loads_on_chips_1_and_2() {
+    for chip in [1, 2] {
+        let bench = Bench::fresh(chip);
+        for byte in 0..=255 {
+            // 4 is chip 3's: pins over 15 make no difference here.
+            for operand in [[byte, 0], [0, byte], [byte, byte]] {
+                let [da, db] = operand;
+                assert_refused(&bench, kind::LOAD, [da, db, 0, 0, 0, 0, 0, 0], 5);
+            }
+        }
+    }
+    // Where a colour write would be refused too, and where it would paint.
+    let reading = Bench::with_places(2, &[(p2::DIRECTION, 1), (p2::POSITION, 2)]);
+    assert_refused(&reading, kind::LOAD, [1, 2, 0, 0, 0, 0, 0, 0], 5);
+    let blue = Bench::with_places(1, &[(p1::POSITION, 2)]);
+    assert_refused(&blue, kind::LOAD, [1, 2, 0, 0, 0, 0, 0, 0], 5);
+    assert_accepted(&Bench::fresh(3), kind::LOAD, [1, 2, 0, 0, 0, 0, 0, 0]);
+}
+
+#[test]
+fn refusal_5_writes_reads_and_vertical_periods_on_chip_3() {
+    for bench in full_chip_3() {
+        // 5 comes before 1: selectors over 3 are no exception.
+        for selector in 0..=255 {
+            for byte in [0, 15, 16, 255] {
+                let operand = [selector, byte, 0, 0, 0, 0, 0, 0];
+                assert_refused(&bench, kind::WRITE, operand, 5);
+            }
+            assert_refused(&bench, kind::READ, one_byte(0, selector), 5);
+        }
+        assert_refused(&bench, kind::VERTICAL, [0; 8], 5);
+        for event_kind in [kind::TICK, kind::SAVE, kind::LOAD] {
+            assert_accepted(&bench, event_kind, [0; 8]);
+        }
+    }
+}
+
+#[test]
+fn refusal_14_kinds_over_5() {
     for chip in CHIPS {
         let bench = Bench::fresh(chip);
         for event_kind in highest_kind(chip) + 1..=255 {
@@ -147,6 +258,9 @@ fn refusal_14_kinds_over_4() {
             assert_refused(&bench, event_kind, [9; 8], 14);
         }
         assert_accepted(&bench, kind::SAVE, [0; 8]);
+        assert_eq!([highest_kind(chip), kind::LOAD], [5; 2]);
+        let (answer, _) = model::event(&bench.state, 5, &[0; 8]);
+        assert_ne!(answer[0], 14);
     }
 }
 
@@ -167,8 +281,8 @@ fn refusal_15_each_unused_operand_byte() {
             }
         }
     }
-    // 6 + 7 + 0 + 8 + 8 on chip 1, 6 more for chip 2's tick.
-    assert_eq!(refused, 29 + 35);
+    // 6 + 7 + 0 + 8 + 8 + 6 on chip 1, 6 more for chip 2's tick, 5 for chip 3's.
+    assert_eq!(refused, 35 + 41 + 40);
 }
 
 #[test]
@@ -198,6 +312,36 @@ fn refusal_15_comes_before_1_to_5() {
         with_unused[6] = 1;
         assert_refused(&chip2, event_kind, with_unused, 15);
     }
+    for bench in [&chip1, &chip2] {
+        for operand in [[0, 0, 0, 0, 0, 0, 0, 0], [16, 255, 0, 0, 0, 0, 0, 0]] {
+            assert_refused(bench, kind::LOAD, operand, 5);
+            for unused in 2..8 {
+                let mut with_unused = operand;
+                with_unused[unused] = 1;
+                assert_refused(bench, kind::LOAD, with_unused, 15);
+            }
+        }
+    }
+    let chip3 = Bench::fresh(3);
+    for (event_kind, operand, number) in [
+        (kind::WRITE, [0, 0, 0, 0, 0, 0, 0, 0], 5),
+        (kind::WRITE, [4, 0, 0, 0, 0, 0, 0, 0], 5),
+        (kind::READ, [1, 0, 0, 0, 0, 0, 0, 0], 5),
+        (kind::READ, [4, 0, 0, 0, 0, 0, 0, 0], 5),
+        (kind::VERTICAL, [0, 0, 0, 0, 0, 0, 0, 0], 5),
+        (kind::TICK, [16, 0, 0, 0, 0, 0, 0, 1], 4),
+        (kind::TICK, [0, 16, 0, 0, 0, 0, 0, 1], 4),
+        (kind::TICK, [0, 0, 0, 0, 0, 0, 0, 2], 4),
+        (kind::LOAD, [16, 0, 0, 0, 0, 0, 0, 0], 4),
+        (kind::LOAD, [0, 255, 0, 0, 0, 0, 0, 0], 4),
+    ] {
+        assert_refused(&chip3, event_kind, operand, number);
+        for unused in 2..7 {
+            let mut with_unused = operand;
+            with_unused[unused] = 1;
+            assert_refused(&chip3, event_kind, with_unused, 15);
+        }
+    }
 }
 
 #[test]
@@ -222,20 +366,24 @@ fn refusal_25_each_state_value_above_its_largest() {
             }
         }
     }
-    // Position and blink count; 768 colours, position, direction, held bytes.
-    assert_eq!(places_tried, 2 + 772);
+    // Position and blink count; 768 colours, position, direction, held bytes;
+    // every place of chip 3.
+    assert_eq!(places_tried, 2 + 772 + 86);
 }
 
 #[test]
 fn refusal_25_comes_before_14_15_and_1_to_5() {
     let chip1 = Bench::with_places(1, &[(p1::ADDRESS, 8), (p1::BLINK_COUNT, 128)]);
     let chip2 = Bench::with_places(2, &[(p2::DIRECTION, 2)]);
-    for bench in [&chip1, &chip2] {
+    let chip3 = Bench::with_places(3, &[(p3::LOAD_POSITION, 32)]);
+    for bench in [&chip1, &chip2, &chip3] {
         assert_refused(bench, 200, [0; 8], 25);
         assert_refused(bench, kind::SAVE, [1; 8], 25);
         assert_refused(bench, kind::READ, one_byte(0, 9), 25);
         assert_refused(bench, kind::TICK, one_byte(7, 128), 25);
         assert_refused(bench, kind::VERTICAL, [0; 8], 25);
+        assert_refused(bench, kind::LOAD, [0; 8], 25);
+        assert_refused(bench, kind::LOAD, [16; 8], 25);
     }
     assert_refused(&chip1, kind::READ, one_byte(0, 2), 25);
     assert_refused(&chip2, kind::READ, one_byte(0, 1), 25);
@@ -246,7 +394,7 @@ fn refusal_21_every_chip_that_is_not_built() {
     let mut chips = 0;
     for chip in not_built() {
         let bench = Bench::not_built(chip);
-        for event_kind in 0..=kind::SAVE {
+        for event_kind in 0..=kind::LOAD {
             assert_refused(&bench, event_kind, [0; 8], 21);
         }
         chips += 1;
@@ -261,7 +409,7 @@ fn refusal_21_hands_the_state_back_time_after_time() {
         for _ in 0..3 {
             assert_eq!(bench.write(0, 5), 21);
             assert_eq!(bench.read(0), (21, 0));
-            for event_kind in [kind::TICK, kind::VERTICAL, kind::SAVE] {
+            for event_kind in [kind::TICK, kind::VERTICAL, kind::SAVE, kind::LOAD] {
                 assert_eq!(bench.event(event_kind, [0; 8])[0], 21);
             }
             assert_eq!(bench.state.chip(), chip);
@@ -290,6 +438,13 @@ fn refusal_21_comes_before_14_15_and_1_to_5() {
         (1, kind::TICK, one_byte(5, 32), 4),
         (2, kind::TICK, one_byte(7, 2), 4),
         (2, kind::VERTICAL, [0; 8], 5),
+        (3, 6, [0; 8], 14),
+        (3, kind::LOAD, one_byte(2, 1), 15),
+        (3, kind::TICK, one_byte(2, 1), 15),
+        (3, kind::LOAD, one_byte(1, 16), 4),
+        (3, kind::TICK, one_byte(7, 2), 4),
+        (3, kind::WRITE, one_byte(0, 4), 5),
+        (1, kind::LOAD, [0; 8], 5),
     ];
     for (built, event_kind, operand, number) in cases {
         assert_refused(&Bench::fresh(built), event_kind, operand, number);

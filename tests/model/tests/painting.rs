@@ -1,8 +1,9 @@
-//! Which accesses paint, worked out by hand from document 01.
+//! Which accesses paint, worked out by hand from document 01 and document 02's
+//! Note 3.
 
 use crate::common::Bench;
-use kit::{chip_of_round, is_access, log_bytes, p1, p2, snapshot_bytes, Random};
-use kit::{read, save as save_event, tick, vertical, write};
+use kit::{chip_of_round, is_access, log_bytes, p1, p2, p3, snapshot_bytes, Random};
+use kit::{load, read, save as save_event, tick, vertical, write, CHIPS};
 use model::{painting_accesses, save, Event, Refusal};
 
 /// The painting accesses of this log are exactly these indices.
@@ -115,6 +116,65 @@ fn chip_2_mask_writes_always_paint() {
 }
 
 #[test]
+fn chip_3_second_loads_paint() {
+    let loads = [load(1, 2); 5];
+    for position in 0..32 {
+        let bench = Bench::with_places(3, &[(p3::LOAD_POSITION, position)]);
+        let indices: &[usize] = if position % 2 == 0 {
+            &[1, 3]
+        } else {
+            &[0, 2, 4]
+        };
+        assert_painting(&bench, &loads, indices);
+    }
+}
+
+#[test]
+fn chip_3_refused_accesses_do_not_paint_and_move_nothing() {
+    let refused = [
+        load(16, 0),
+        load(0, 255),
+        write(0, 1),
+        write(9, 1),
+        read(1),
+        read(255),
+    ];
+    let second = Bench::with_places(3, &[(p3::LOAD_POSITION, 1)]);
+    assert_painting(&second, &refused, &[]);
+    // The second load is still to come after all of them.
+    let then_loaded = [&refused[..], &[load(0, 0), load(0, 0)]].concat();
+    assert_painting(&second, &then_loaded, &[6]);
+    assert_painting(&Bench::fresh(3), &then_loaded, &[7]);
+}
+
+#[test]
+fn loads_on_chips_1_and_2_never_paint() {
+    let blue = Bench::with_places(1, &[(p1::POSITION, 2)]);
+    assert_painting(&blue, &[load(1, 2), load(2, 9), write(1, 1)], &[2]);
+    let mask = Bench::with_places(1, &[(p1::ADDRESS, 4)]);
+    assert_painting(&mask, &[load(2, 9)], &[]);
+    let blue = Bench::with_places(2, &[(p2::POSITION, 2)]);
+    assert_painting(&blue, &[load(1, 2), load(2, 9), write(1, 1)], &[2]);
+}
+
+#[test]
+fn chip_3_display_events_and_saves_do_not_count() {
+    let events = [
+        tick([1, 2, 0, 0, 0, 0, 0, 1]),
+        load(1, 2),
+        tick([1, 2, 0, 0, 0, 0, 0, 0]),
+        save_event(),
+        vertical(),
+        load(3, 4),
+        tick([16, 0, 0, 0, 0, 0, 0, 1]),
+        load(5, 6),
+        save_event(),
+        load(7, 8),
+    ];
+    assert_painting(&Bench::fresh(3), &events, &[5, 9]);
+}
+
+#[test]
 fn display_events_and_saves_do_not_count() {
     let events = [
         write(1, 1),
@@ -151,12 +211,12 @@ fn refused_pairs_are_refused_as_a_run_refuses_them() {
 #[test]
 fn accesses_that_do_not_paint_change_nothing_that_is_shown() {
     let mut random = Random::seeded(0x5EED_0003);
-    let (mut still, mut painted) = (0, 0);
-    for round in 0..150 {
+    let (mut still, mut painted) = ([0; CHIPS.len()], [0; CHIPS.len()]);
+    for round in 0..240 {
         let chip = chip_of_round(round);
         let mut state = random.state(chip);
         for _ in 0..40 {
-            let event = random.access();
+            let event = random.access_on(chip);
             assert!(is_access(&event));
             let snapshot = save(&state).unwrap();
             let paints = painting_accesses(&snapshot, &log_bytes(chip, &[event])).unwrap();
@@ -166,23 +226,28 @@ fn accesses_that_do_not_paint_change_nothing_that_is_shown() {
                     shown_places(&next.places(), chip),
                     shown_places(&state.places(), chip)
                 );
-                still += 1;
+                still[round % CHIPS.len()] += 1;
             } else {
-                painted += 1;
+                painted[round % CHIPS.len()] += 1;
             }
             state = next;
         }
     }
-    assert!(still > 2500);
-    assert!(painted > 250);
+    assert!(still.iter().all(|&count| count > 1200), "{still:?}");
+    assert!(painted.iter().all(|&count| count > 100), "{painted:?}");
 }
 
-/// Colours, masks and command: the places that a tick looks at and an access
-/// can change.
+/// Colours, masks and command, registers and colour before: the places that a
+/// tick looks at, but for the blink count, which no access can change.
 fn shown_places(places: &[u8], chip: u8) -> Vec<u8> {
     match chip {
         1 => [&places[..p1::ADDRESS], &places[p1::READ_MASK..p1::TEST]].concat(),
         2 => [&places[..p2::ADDRESS], &places[p2::MASK..p2::COUNT]].concat(),
+        3 => [
+            &places[..p3::LOAD_POSITION],
+            &places[p3::COLOUR_BEFORE..p3::COUNT],
+        ]
+        .concat(),
         _ => panic!("what a tick of chip {chip} looks at isn't listed"),
     }
 }

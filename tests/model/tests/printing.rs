@@ -1,7 +1,7 @@
 //! The printing program's output, from the library and from `model-replay`.
 
 use crate::common::header_over_the_limit;
-use kit::{c, read, rs, save, tick, vertical, write};
+use kit::{c, load, read, rs, save, tick, vertical, write};
 use kit::{chip_of_round, highest_kind, log_bytes, not_built, Random, NOT_BUILT};
 use kit::{LOG_HEADER_BYTES, MOST_EVENTS, MOST_LOG_BYTES};
 use model::{printed, Event};
@@ -64,6 +64,7 @@ fn digits_are_lowercase_and_every_line_ends_with_a_line_feed() {
 fn an_empty_log_prints_a_fresh_chip() {
     assert_eq!(printed(&[1, 0, 0, 0, 0]), "010000\n");
     assert_eq!(printed(&[2, 0, 0, 0, 0]), "020000\n");
+    assert_eq!(printed(&[3, 0, 0, 0, 0]), "030000\n");
     assert_eq!(printed_by_program(&[1, 0, 0, 0, 0]), "010000\n");
 }
 
@@ -115,9 +116,66 @@ fn refusals_in_answers_are_printed_as_answers() {
 }
 
 #[test]
+fn a_log_of_chip_3_prints_its_loads_and_pixels() {
+    // Register 0: 10, 11, 12 with EXT. Register 1: 1, 2, 3 with REP. Pixels 1
+    // and 0, then 1 and 1, then blanked; a write, a vertical period and a load
+    // that are refused.
+    let log = log_bytes(
+        3,
+        &[
+            load(10, 1),
+            load(11, 12),
+            load(1, 2),
+            load(2, 3),
+            tick([1, 0, 0, 0, 0, 0, 0, 1]),
+            tick([1, 1, 0, 0, 0, 0, 0, 1]),
+            tick([0, 0, 0, 0, 0, 0, 0, 0]),
+            write(0, 0),
+            vertical(),
+            load(0, 16),
+        ],
+    );
+    let expected = concat!(
+        "000000000000000000000000000000000000\n",
+        "000000000000000000000000000000000000\n",
+        "000000000000000000000000000000000000\n",
+        "000000000000000000000000000000000000\n",
+        "0002050000000a0b0c000000000000000000\n",
+        "0002010a0b0c0a0b0c000000000000000000\n",
+        "000200000000000000000000000000000000\n",
+        "050000000000000000000000000000000000\n",
+        "050000000000000000000000000000000000\n",
+        "040000000000000000000000000000000000\n",
+        // Places 0 to 3, 5 to 7, 9, 80, 81 and 82.
+        "030b00",
+        "00000100020003000500060007000900500051005200",
+        "0a0b0c0101020301040102\n"
+    );
+    assert_eq!(printed(&log), expected);
+    assert_eq!(printed_by_program(&log), expected);
+}
+
+#[test]
+fn a_load_on_chips_1_and_2_prints_5_and_kind_6_prints_14() {
+    for (chip, end) in [(1, "010000\n"), (2, "020000\n")] {
+        let answer = "050000000000000000000000000000000000\n";
+        let text = printed(&log_bytes(chip, &[load(1, 2)]));
+        assert_eq!(text, [answer, end].concat());
+    }
+    for chip in [1, 2, 3] {
+        let mut log = log_bytes(chip, &[load(1, 2)]);
+        log[5] = 6;
+        assert_eq!(printed(&log), "refused 14\n");
+        log[5] = 5;
+        log[8] = 1;
+        assert_eq!(printed(&log), "refused 15\n");
+    }
+}
+
+#[test]
 fn the_program_prints_what_the_library_prints() {
     let mut random = Random::seeded(0x5EED_0002);
-    for round in 0..20 {
+    for round in 0..21 {
         let chip = chip_of_round(round);
         let log = log_bytes(chip, &random.events(chip, 150));
         let text = printed(&log);

@@ -8,8 +8,8 @@ use model::{event, kind, restore, save, save_into, State};
 #[test]
 fn save_then_restore_gives_the_state_back() {
     let mut random = Random::seeded(0x5EED_0010);
-    let (mut empty, mut full) = (0, 0);
-    for round in 0..400 {
+    let (mut empty, mut full) = ([0; CHIPS.len()], [0; CHIPS.len()]);
+    for round in 0..600 {
         let chip = chip_of_round(round);
         let state = random.state(chip);
         let bytes = save(&state).unwrap();
@@ -25,11 +25,13 @@ fn save_then_restore_gives_the_state_back() {
 
         let kept = state.places().iter().filter(|&&value| value != 0).count();
         assert_eq!(bytes.len(), 3 + 3 * kept);
-        empty += usize::from(kept < 10);
-        full += usize::from(kept > 700);
+        let index = round % CHIPS.len();
+        empty[index] += usize::from(kept < 10);
+        // A place of EXT or REP is 0 as often as not.
+        full[index] += usize::from(10 * kept > 7 * place_count(chip));
     }
-    assert!(empty > 50);
-    assert!(full > 50);
+    assert!(empty.iter().all(|&count| count > 25), "{empty:?}");
+    assert!(full.iter().all(|&count| count > 25), "{full:?}");
 }
 
 #[test]
@@ -93,7 +95,7 @@ fn saves_between_events_change_nothing_else() {
         let mut saved = Vec::new();
         for _ in 0..40 {
             let event = if random.one_in(2) {
-                random.access()
+                random.access_on(chip)
             } else {
                 random.display(chip)
             };

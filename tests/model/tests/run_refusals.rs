@@ -3,7 +3,7 @@
 
 use crate::common::{assert_refused, header_over_the_limit, run_with, snapshot_with};
 use kit::{chip_of_round, highest_kind, log_bytes, not_built};
-use kit::{read, save, tick, vertical, write, Random, CHIPS, NOT_BUILT};
+use kit::{load, read, save, tick, vertical, write, Random, CHIPS, NOT_BUILT};
 use kit::{ANSWER_BYTES, END_BYTES, MOST_EVENTS};
 use model::{kind, read_log, Event};
 
@@ -173,6 +173,35 @@ fn refusal_15_goes_by_the_logs_chip() {
     // The log is checked before 26, so the snapshot's chip doesn't matter.
     assert_refused(&[1, 0, 0], &log(2), ANSWER_BYTES, END_BYTES, 15);
     assert_refused(&[2, 0, 0], &log(1), ANSWER_BYTES, END_BYTES, 26);
+    // Byte 1 is chip 3's DB; chips 2 and 3 have no use for byte 2.
+    assert_accepted(&[3, 0, 0], &log(3), ANSWER_BYTES, END_BYTES);
+    let log = |chip| log_bytes(chip, &[tick([0, 0, 1, 0, 0, 0, 0, 1])]);
+    assert_accepted(&[1, 0, 0], &log(1), ANSWER_BYTES, END_BYTES);
+    for chip in [2, 3] {
+        for snapshot_chip in CHIPS {
+            let snapshot = [snapshot_chip, 0, 0];
+            assert_refused(&snapshot, &log(chip), ANSWER_BYTES, END_BYTES, 15);
+        }
+    }
+}
+
+#[test]
+fn refusals_14_and_15_of_loads() {
+    for chip in CHIPS {
+        // 6 is the lowest kind that is refused.
+        assert_log_refused(&log_bytes(chip, &[load(1, 2), odd_kind(6)]), 14);
+        // Bytes 0 and 1 are used, whether or not the chip refuses the load.
+        for unused in 2..8 {
+            let mut operand = [255, 255, 0, 0, 0, 0, 0, 0];
+            operand[unused] = 1;
+            let events = [load(1, 2), odd_operand(kind::LOAD, operand)];
+            assert_log_refused(&log_bytes(chip, &events), 15);
+            let events = [odd_operand(kind::LOAD, operand), odd_kind(6)];
+            assert_log_refused(&log_bytes(chip, &events), 15);
+        }
+        let log = log_bytes(chip, &[load(255, 255), load(0, 0)]);
+        assert_accepted(&[chip, 0, 0], &log, 2 * ANSWER_BYTES, END_BYTES);
+    }
 }
 
 #[test]
@@ -208,7 +237,7 @@ fn refusal_30_one_byte_short_exact_and_longer() {
 fn refusal_31_one_byte_short_exact_and_longer() {
     for chip in CHIPS {
         let log = log_bytes(chip, &[read(0)]);
-        for size in [0, 3, 2325, END_BYTES - 1] {
+        for size in [0, 3, 261, 2325, END_BYTES - 1] {
             assert_refused(&[chip, 0, 0], &log, ANSWER_BYTES, size, 31);
         }
         assert_accepted(&[chip, 0, 0], &log, ANSWER_BYTES, END_BYTES);
@@ -263,6 +292,53 @@ fn refusals_1_to_5_sit_in_their_answers_and_stop_nothing() {
     assert_eq!(firsts, [[3, 0], [5, 0], [0, 0], [3, 0], [0, 8]]);
     assert_eq!(result, 9);
     assert_eq!(end[..9], [2, 2, 0, 0x00, 0x03, 0x02, 0x03, 8, 1]);
+}
+
+#[test]
+fn refusals_of_loads_and_on_chip_3_stop_nothing() {
+    for chip in [1, 2] {
+        let log = log_bytes(chip, &[load(1, 2), write(0, 6), load(16, 255), read(0)]);
+        let (result, answers, end) = run_with(&[chip, 0, 0], &log, 4 * ANSWER_BYTES, END_BYTES);
+        let firsts: Vec<[u8; 2]> = answers
+            .chunks(ANSWER_BYTES)
+            .map(|answer| [answer[0], answer[1]])
+            .collect();
+        assert_eq!(firsts, [[5, 0], [0, 0], [5, 0], [0, 6]]);
+        // The address alone.
+        assert_eq!(result, 6);
+        let low = if chip == 1 { 0x0C } else { 0x00 };
+        assert_eq!(end[..6], [chip, 1, 0, low, 0x03, 6]);
+    }
+
+    let events = [
+        load(9, 1),
+        load(16, 0),
+        write(9, 0),
+        load(10, 11),
+        read(0),
+        vertical(),
+        tick([0, 16, 0, 0, 0, 0, 0, 1]),
+        tick([1, 0, 0, 0, 0, 0, 0, 1]),
+        tick([0, 0, 0, 0, 0, 0, 0, 2]),
+        save(),
+    ];
+    let log = log_bytes(3, &events);
+    let (result, answers, end) = run_with(&[3, 0, 0], &log, 10 * ANSWER_BYTES, END_BYTES);
+    let mut expected = vec![0; 10 * ANSWER_BYTES];
+    for (index, number) in [(1, 4), (2, 5), (4, 5), (5, 5), (6, 4), (8, 4)] {
+        expected[ANSWER_BYTES * index] = number;
+    }
+    // Register 1 is black, register 0 has the colour 9, 10, 11 and EXT.
+    expected[ANSWER_BYTES * 7..ANSWER_BYTES * 7 + 9]
+        .copy_from_slice(&[0, 2, 0b101, 0, 0, 0, 9, 10, 11]);
+    assert_eq!(answers, expected);
+    // Places 0 to 3, load position 2, held red and EXT, and the colour before.
+    assert_eq!(result, 3 + 3 * 10);
+    let places = [0, 1, 2, 3, 80, 81, 82, 83, 84, 85];
+    let values = [9, 10, 11, 1, 2, 9, 1, 9, 10, 11];
+    assert_eq!(end[..3], [3, 10, 0]);
+    assert_eq!(end[3..23], places.map(|place| [place, 0]).concat());
+    assert_eq!(end[23..33], values);
 }
 
 #[test]

@@ -3,7 +3,7 @@
 //! there are.
 
 use crate::common::Bench;
-use kit::{largest, not_built, p1, p2, place_count, snapshot_bytes, CHIPS, END_BYTES};
+use kit::{largest, not_built, p1, p2, p3, place_count, snapshot_bytes, CHIPS, END_BYTES};
 use model::{restore, save, save_into, Refusal, State};
 
 /// A refused restore gives a fresh chip 1 beside its number.
@@ -29,15 +29,18 @@ fn first_places(chip: u8, count: usize) -> Vec<u8> {
 fn fresh_chips_are_three_bytes() {
     assert_eq!(Some(assert_accepted(&[1, 0, 0])), State::fresh(1));
     assert_eq!(Some(assert_accepted(&[2, 0, 0])), State::fresh(2));
+    assert_eq!(Some(assert_accepted(&[3, 0, 0])), State::fresh(3));
     assert_eq!(save(&State::fresh(1).unwrap()), Ok(vec![1, 0, 0]));
     assert_eq!(save(&State::fresh(2).unwrap()), Ok(vec![2, 0, 0]));
+    assert_eq!(save(&State::fresh(3).unwrap()), Ok(vec![3, 0, 0]));
 }
 
 #[test]
 fn a_state_of_a_built_chip_has_that_chips_places() {
     assert_eq!(State::from_places(1, &[0; p1::COUNT]), State::fresh(1));
     assert_eq!(State::from_places(2, &[0; p2::COUNT]), State::fresh(2));
-    for (chip, count) in [(1, 789), (2, 774)] {
+    assert_eq!(State::from_places(3, &[0; p3::COUNT]), State::fresh(3));
+    for (chip, count) in [(1, 789), (2, 774), (3, 86)] {
         for wrong in [0, 1, count - 1, count + 1] {
             assert_eq!(State::from_places(chip, &vec![0; wrong]), None);
         }
@@ -47,6 +50,8 @@ fn a_state_of_a_built_chip_has_that_chips_places() {
     }
     assert_eq!(State::from_places(1, &[0; p2::COUNT]), None);
     assert_eq!(State::from_places(2, &[0; p1::COUNT]), None);
+    assert_eq!(State::from_places(3, &[0; p2::COUNT]), None);
+    assert_eq!(State::from_places(2, &[0; p3::COUNT]), None);
 }
 
 #[test]
@@ -58,7 +63,7 @@ fn a_state_of_a_chip_that_is_not_built_has_its_chip_byte_and_no_places() {
         assert_eq!(state.chip(), chip);
         assert_eq!(state.places(), []);
         // With no places no value is above its largest: 25 never meets 21.
-        for count in [1, 3, p2::COUNT, p1::COUNT] {
+        for count in [1, 3, p3::COUNT, p2::COUNT, p1::COUNT] {
             assert_eq!(State::from_places(chip, &vec![0; count]), None);
             assert_eq!(State::from_places(chip, &vec![255; count]), None);
         }
@@ -108,6 +113,13 @@ fn refusal_22_count_over_the_places() {
     // 775 to 789 places are too many for chip 2 alone.
     assert_accepted(&first_places(1, 775));
     assert_refused(&first_places(2, 775), 22);
+    // 87 and more are too many for chip 3 alone.
+    assert_accepted(&first_places(3, 86));
+    assert_refused(&first_places(3, 87), 22);
+    assert_refused(&first_places(3, 774), 22);
+    assert_accepted(&first_places(2, 87));
+    // The high byte of the count counts: 256 + 86.
+    assert_refused(&[3, 86, 1], 22);
 }
 
 #[test]
@@ -142,10 +154,14 @@ fn refusal_24_places() {
         assert_refused(&snapshot_bytes(chip, &[(0, 1), (0, 1)]), 24);
         assert_refused(&snapshot_bytes(chip, &[(1, 1), (3, 1), (2, 1)]), 24);
         assert_accepted(&snapshot_bytes(chip, &[(5, 1), (6, 1)]));
-        // The high byte of a place number counts.
+    }
+    // The high byte of a place number counts.
+    for chip in [1, 2] {
         assert_accepted(&snapshot_bytes(chip, &[(0x00FF, 1), (0x0100, 1)]));
         assert_refused(&snapshot_bytes(chip, &[(0x0100, 1), (0x00FF, 1)]), 24);
     }
+    assert_refused(&snapshot_bytes(3, &[(0x0100, 1)]), 24);
+    assert_refused(&snapshot_bytes(3, &[(0x0155, 1)]), 24);
 }
 
 #[test]
@@ -176,6 +192,8 @@ fn refusals_24_and_25_the_lowest_index_decides() {
     // The same further on.
     assert_refused(&snapshot_bytes(2, &[(1, 1), (2, 64), (3, 1), (3, 1)]), 25);
     assert_refused(&snapshot_bytes(2, &[(1, 1), (2, 63), (2, 1), (3, 0)]), 24);
+    assert_refused(&snapshot_bytes(3, &[(3, 2), (86, 1)]), 25);
+    assert_refused(&snapshot_bytes(3, &[(3, 1), (86, 1), (87, 0)]), 24);
 }
 
 #[test]
@@ -185,6 +203,20 @@ fn refusals_24_and_25_at_one_index_the_smaller_number() {
     assert_refused(&snapshot_bytes(1, &[(781, 1), (781, 3)]), 24);
     assert_refused(&snapshot_bytes(1, &[(5, 1), (5, 0)]), 24);
     assert_refused(&snapshot_bytes(2, &[(5, 1), (4, 64)]), 24);
+    assert_refused(&snapshot_bytes(3, &[(86, 0)]), 24);
+    assert_refused(&snapshot_bytes(3, &[(80, 1), (80, 32)]), 24);
+}
+
+#[test]
+fn the_largest_values_of_chip_3() {
+    // A register's places, then the load position and what follows it.
+    let mut expected = [15, 15, 15, 1, 1].repeat(16);
+    expected.extend([31, 15, 3, 15, 15, 15]);
+    assert_eq!(expected.len(), 86);
+    for (place, most) in (0..).zip(expected) {
+        assert_accepted(&snapshot_bytes(3, &[(place, most)]));
+        assert_refused(&snapshot_bytes(3, &[(place, most + 1)]), 25);
+    }
 }
 
 #[test]
@@ -206,6 +238,16 @@ fn a_restore_puts_every_value_at_its_place() {
     (expected[767], expected[768], expected[770], expected[773]) = (63, 255, 1, 9);
     assert_eq!(state.chip(), 2);
     assert_eq!(state.places(), expected);
+
+    let state = assert_accepted(&snapshot_bytes(
+        3,
+        &[(4, 1), (79, 1), (80, 31), (82, 3), (85, 15)],
+    ));
+    let mut expected = vec![0; p3::COUNT];
+    (expected[4], expected[79], expected[80]) = (1, 1, 31);
+    (expected[82], expected[85]) = (3, 15);
+    assert_eq!(state.chip(), 3);
+    assert_eq!(state.places(), expected);
 }
 
 #[test]
@@ -221,7 +263,9 @@ fn a_save_writes_exactly_the_places_that_are_not_0() {
 
 #[test]
 fn save_refuses_25() {
-    for (chip, place) in [(1, 781), (1, 788), (2, 0), (2, 769), (2, 770), (2, 772)] {
+    let chips_1_and_2 = [(1, 781), (1, 788), (2, 0), (2, 769), (2, 770), (2, 772)];
+    let chip_3 = [(3, 0), (3, 3), (3, 4), (3, 80), (3, 81), (3, 82), (3, 85)];
+    for (chip, place) in [&chips_1_and_2[..], &chip_3].concat() {
         let bench = Bench::with_places(chip, &[(place, largest(chip, place) + 1)]);
         assert_eq!(save(&bench.state), Err(Refusal::Value));
     }
@@ -241,9 +285,13 @@ fn save_refuses_21() {
 
 #[test]
 fn save_into_a_lent_buffer_one_short_exact_and_longer() {
-    for chip in CHIPS {
-        let bench = Bench::with_places(chip, &[(2, 0x0A), (300, 0x3F)]);
-        let bytes = [chip, 2, 0, 0x02, 0x00, 0x2C, 0x01, 0x0A, 0x3F];
+    for (chip, place, value, [low, high]) in [
+        (1, 300, 0x3F, [0x2C, 0x01]),
+        (2, 300, 0x3F, [0x2C, 0x01]),
+        (3, 80, 0x1F, [0x50, 0x00]),
+    ] {
+        let bench = Bench::with_places(chip, &[(2, 0x0A), (place, value)]);
+        let bytes = [chip, 2, 0, 0x02, 0x00, low, high, 0x0A, value];
         for size in [END_BYTES, END_BYTES + 1, 5000] {
             let mut buffer = vec![0xEE; size];
             let saved = save_into(&bench.state, &mut buffer);
@@ -252,7 +300,8 @@ fn save_into_a_lent_buffer_one_short_exact_and_longer() {
             assert_eq!(buffer[..9], bytes);
             assert_eq!(buffer[9..], vec![0xEE; size - 9]);
         }
-        for size in [0, 9, 2325, END_BYTES - 1] {
+        // 261 and 2,325 bytes would do for any state of chips 3 and 2.
+        for size in [0, 9, 261, 2325, END_BYTES - 1] {
             assert_save_into_refused(&bench, size, 31);
         }
     }
@@ -282,14 +331,18 @@ fn save_into_looks_for_21_before_31() {
     for size in [0, 2, 3, 2325, END_BYTES - 1] {
         assert_save_into_refused(&Bench::fresh(1), size, 31);
         assert_save_into_refused(&Bench::fresh(2), size, 31);
+        assert_save_into_refused(&Bench::fresh(3), size, 31);
     }
 }
 
 #[test]
 fn save_into_looks_for_25_before_31() {
-    let bench = Bench::with_places(1, &[(p1::POSITION, 3)]);
-    for size in [0, END_BYTES - 1, END_BYTES] {
-        assert_save_into_refused(&bench, size, 25);
+    let chip1 = Bench::with_places(1, &[(p1::POSITION, 3)]);
+    let chip3 = Bench::with_places(3, &[(p3::HELD_ATTRIBUTES, 4)]);
+    for bench in [chip1, chip3] {
+        for size in [0, END_BYTES - 1, END_BYTES] {
+            assert_save_into_refused(&bench, size, 25);
+        }
     }
 }
 

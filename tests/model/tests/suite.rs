@@ -14,6 +14,7 @@ mod round_trips;
 mod run_refusals;
 mod snapshot_refusals;
 mod tlc34058_tables;
+mod tms34070_registers;
 
 use std::collections::BTreeSet;
 use std::fs;

@@ -8,6 +8,9 @@ use crate::random::Random;
 use crate::shuffle::riffle;
 use model::{Event, State};
 
+/// Loads that fill all registers of the TMS34070.
+const TABLE_LOADS: usize = 2 * p3::REGISTERS;
+
 /// Registers of the TLC34058 that the display looks at, and its test register.
 const CONTROL_ADDRESSES: [u8; 4] = [4, 5, 6, 7];
 
@@ -169,6 +172,11 @@ impl Random {
         load(self.pins(), self.pins())
     }
 
+    /// A load that gives its register REP if it is the first of the two.
+    pub fn repeating_load(&mut self) -> Event {
+        load(self.pins(), self.pins() | 2)
+    }
+
     /// A load with an undefined bit set.
     pub fn odd_load(&mut self) -> Event {
         let mut load = self.load();
@@ -208,11 +216,17 @@ impl Random {
         }
     }
 
-    /// One access, a register's two loads, or as many as the table has.
+    /// One access; a register's two loads, sometimes with another access between
+    /// them that is refused; or as many loads as fill the table, sometimes with
+    /// REP in every register.
     fn load_burst(&mut self) -> Vec<Event> {
-        match self.below(40) {
-            0 => (0..32).map(|_| self.load()).collect(),
-            1..=15 => (0..2).map(|_| self.load()).collect(),
+        match self.below(80) {
+            0 => (0..TABLE_LOADS).map(|_| self.load()).collect(),
+            1 => (0..TABLE_LOADS).map(|_| self.repeating_load()).collect(),
+            2..=20 => vec![self.load(), self.load()],
+            21..=30 => vec![self.repeating_load(), self.load()],
+            31..=34 => vec![self.load(), self.odd_load(), self.load()],
+            35..=36 => vec![self.load(), self.access(), self.load()],
             _ => vec![self.access_on(3)],
         }
     }
@@ -325,7 +339,7 @@ impl Random {
 
     /// A tick or a vertical period; some ticks have an undefined bit set.
     pub fn display(&mut self, chip: u8) -> Event {
-        if self.one_in(4) {
+        if self.one_in(vertical_periods(chip)) {
             vertical()
         } else if self.one_in(12) {
             self.odd_tick(chip)
@@ -370,5 +384,15 @@ impl Random {
             .map(|_| self.display(chip))
             .collect();
         riffle(self, &accesses, &displays)
+    }
+}
+
+/// One display event in this many is a vertical period. Chip 3 refuses them, and
+/// its ticks are worth more.
+fn vertical_periods(chip: u8) -> usize {
+    match chip {
+        1 | 2 => 4,
+        3 => 10,
+        _ => no_such_chip(chip),
     }
 }

@@ -146,7 +146,7 @@ pub const SEQUENCES: &[Sequence] = &[
             Write(4, &[0x01]),
             Read(0x80, 1),
             Vertical(1),
-            Raw(5, [0; 8]),
+            Raw(6, [0; 8]),
             Raw(kind::WRITE, [1, 2, 0, 0, 0, 0, 0, 1]),
             Raw(kind::READ, [0, 1, 0, 0, 0, 0, 0, 0]),
             Raw(kind::TICK, [0, 1, 0, 0, 0, 0, 0, 1]),

@@ -10,6 +10,7 @@ mod hd153129;
 mod marked_lines;
 mod sequence;
 mod tlc34058;
+mod tms34070;
 
 use kit::{hexadecimal, CHIPS};
 use model::{event, State};
@@ -79,6 +80,7 @@ fn parts() -> Vec<Part> {
     let tables = [
         tlc34058::SEQUENCES,
         hd153129::SEQUENCES,
+        tms34070::SEQUENCES,
         marked_lines::SEQUENCES,
         &[END],
     ];

@@ -14,6 +14,8 @@ pub enum Step {
     /// How many vertical periods.
     Vertical(usize),
     Save,
+    /// DA and DB of each load.
+    Load(&'static [(u8, u8)]),
     /// A kind and an operand that the other steps don't make.
     Raw(u8, Operand),
     /// From here on events go to this chip.
@@ -22,7 +24,7 @@ pub enum Step {
 
 /// All chips start fresh; events go to `chip`.
 pub struct Sequence {
-    /// The table or the marked line that it plays.
+    /// The table, the paragraph or the marked line that it plays.
     pub name: &'static str,
     pub chip: u8,
     pub parts: &'static [&'static [Step]],
@@ -51,6 +53,11 @@ impl Sequence {
                     }
                 }
                 Step::Save => push(&mut records, chip, kind::SAVE, [0; 8]),
+                Step::Load(loads) => {
+                    for &(da, db) in loads {
+                        push(&mut records, chip, kind::LOAD, operand(da, db));
+                    }
+                }
                 Step::Raw(kind, operand) => push(&mut records, chip, kind, operand),
                 Step::Chip(other) => chip = other,
             }
@@ -59,8 +66,9 @@ impl Sequence {
     }
 }
 
-fn operand(selector: u8, byte: u8) -> Operand {
-    [selector, byte, 0, 0, 0, 0, 0, 0]
+/// Of a write or a read, or of a load.
+fn operand(first: u8, second: u8) -> Operand {
+    [first, second, 0, 0, 0, 0, 0, 0]
 }
 
 fn push(records: &mut Vec<u8>, chip: u8, kind: u8, operand: Operand) {

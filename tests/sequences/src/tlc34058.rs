@@ -331,7 +331,7 @@ pub const SEQUENCES: &[Sequence] = &[
             Write(4, &[0x22]),
             Read(4, 1),
             Write(0xFF, &[0x22]),
-            Raw(5, [0; 8]),
+            Raw(6, [0; 8]),
             Raw(0xFF, [1; 8]),
             Raw(kind::WRITE, [0, 0x33, 1, 0, 0, 0, 0, 0]),
             Raw(kind::READ, [0, 1, 0, 0, 0, 0, 0, 0]),

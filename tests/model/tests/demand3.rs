@@ -34,6 +34,10 @@ struct Census {
     saves_inside_a_register: usize,
     /// Ticks between a register's two loads.
     ticks_inside_a_register: usize,
+    /// Pixels of registers with REP 1, DATEN high.
+    repeated_pixels: usize,
+    /// Those that show a colour other than the register's and not black.
+    repeated_colours: usize,
 }
 
 impl Census {
@@ -44,6 +48,28 @@ impl Census {
         }
         let coloured = |answer: &&Answer| answer[0] == 0 && answer[3..] != [0; ANSWER_BYTES - 3];
         self.ticks_with_colour += ticks.iter().filter(coloured).count();
+    }
+
+    /// Counts the pixels of chip 3 that repeat, event by event.
+    fn count_repeats(&mut self, snapshot: &[u8], events: &[Event]) {
+        let mut state = restore(snapshot).state;
+        for event in events {
+            let places = state.places();
+            let (answer, next) = model::event(&state, event.kind, &event.operand);
+            state = next;
+            if !is_tick(event) || answer[0] != 0 || answer[2] == 0 {
+                continue;
+            }
+            let shown = answer[3..9].chunks_exact(3);
+            for (&pixel, shown) in event.operand.iter().zip(shown) {
+                let first = p3::REGISTER_PLACES * usize::from(pixel);
+                if places[first + p3::REP] == 1 {
+                    let other = shown != &places[first..first + 3] && shown != [0; 3];
+                    self.repeated_pixels += 1;
+                    self.repeated_colours += usize::from(other);
+                }
+            }
+        }
     }
 
     /// Counts what stands between an unrefused load and the next, if that one
@@ -135,6 +161,7 @@ fn check_pair(census: &mut Census, chip: u8, snapshot: &[u8], one: &[Event], two
     census.count_answers(&played_one.answers, &ticks_one);
     if chip == 3 {
         census.count_inside_registers(one, &played_one.answers, &painting_one);
+        census.count_repeats(snapshot, one);
     }
 }
 
@@ -181,6 +208,8 @@ fn assert_well_mixed(census: &Census, chip: u8) {
         assert!(census.loads > 20 * census.pairs);
         assert!(census.saves_inside_a_register > census.pairs);
         assert!(census.ticks_inside_a_register > census.pairs);
+        assert!(census.repeated_pixels > 5 * census.pairs);
+        assert!(census.repeated_colours > 2 * census.pairs);
     }
 }
 

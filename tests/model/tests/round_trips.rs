@@ -88,7 +88,9 @@ fn a_save_event_leaves_every_state_as_it_was() {
 #[test]
 fn saves_between_events_change_nothing_else() {
     let mut random = Random::seeded(0x5EED_0013);
-    for round in 0..60 {
+    // Loads of chip 3 that were accepted, and those that were refused elsewhere.
+    let (mut accepted, mut refused) = (0, 0);
+    for round in 0..90 {
         let chip = chip_of_round(round);
         let start = save(&random.state(chip)).unwrap();
         let mut plain = Vec::new();
@@ -107,13 +109,22 @@ fn saves_between_events_change_nothing_else() {
         let kept: Vec<_> = with.answers.iter().skip(1).step_by(2).copied().collect();
         assert_eq!(kept, without.answers);
         assert_eq!(with.end, without.end);
+        for (event, answer) in plain.iter().zip(&without.answers) {
+            if event.kind == kind::LOAD {
+                accepted += usize::from(answer[0] == 0);
+                refused += usize::from(answer[0] == 5);
+            }
+        }
     }
+    assert!(accepted > 300, "{accepted}");
+    assert!(refused > 10, "{refused}");
 }
 
 #[test]
 fn logs_come_back_as_they_were_written() {
     let mut random = Random::seeded(0x5EED_0014);
-    for round in 0..50 {
+    let mut loads = 0;
+    for round in 0..60 {
         let chip = chip_of_round(round);
         let count = random.below(80);
         let mut events = random.events(chip, count);
@@ -124,5 +135,7 @@ fn logs_come_back_as_they_were_written() {
         assert_eq!(log.chip, chip);
         assert_eq!(log.events, events);
         assert_eq!(log.to_bytes(), bytes);
+        loads += events.iter().filter(|e| e.kind == kind::LOAD).count();
     }
+    assert!(loads > 200, "{loads}");
 }

@@ -344,7 +344,9 @@ fn refusals_of_loads_and_on_chip_3_stop_nothing() {
 #[test]
 fn a_run_is_its_events_called_one_after_another() {
     let mut random = Random::seeded(0x5EED_0001);
-    for round in 0..200 {
+    // Loads: accepted, refused with 4, refused with 5.
+    let mut loads = [0; 3];
+    for round in 0..300 {
         let chip = chip_of_round(round);
         let start = random.state(chip);
         let count = random.below(60);
@@ -355,6 +357,10 @@ fn a_run_is_its_events_called_one_after_another() {
             let (answer, next) = model::event(&state, event.kind, &event.operand);
             expected.extend(answer);
             state = next;
+            if event.kind == kind::LOAD {
+                let sort = [0, 4, 5].iter().position(|&number| number == answer[0]);
+                loads[sort.unwrap()] += 1;
+            }
         }
         let snapshot = model::save(&start).unwrap();
         let log = log_bytes(chip, &events);
@@ -365,4 +371,5 @@ fn a_run_is_its_events_called_one_after_another() {
         assert_eq!(answers, expected);
         assert_eq!(end[..end_snapshot.len()], end_snapshot);
     }
+    assert!(loads.iter().all(|&count| count > 20), "{loads:?}");
 }

@@ -6,8 +6,8 @@ use crate::common::{play, Bench};
 use kit::{load, nonzero, p3, save as save_event, snapshot_bytes, tick, Random, ANSWER_BYTES};
 use model::{kind, Event};
 
-/// No place 0 that can be told from the others by its value; the load position
-/// is this.
+/// Registers with colours of their own, EXT and no REP; held red 9, held REP
+/// without EXT; a colour before; this load position.
 fn every_place_used(load_position: u8) -> Bench {
     let mut chip = Bench::fresh(3);
     for register in 0..16 {

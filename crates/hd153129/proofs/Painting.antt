@@ -9,7 +9,7 @@ use Rattle.laws.proofs.Tests.{cond-all}
 use Rattle.event.specs.Kinds as kinds
 use Rattle.event.specs.Event.{Raw, operandAt}
 use Rattle.hd153129.specs.State.{State}
-use Rattle.hd153129.specs.Port.{Access, nothing, accessRefusal, requestWrite, requestRead, request, altersDisplay}
+use Rattle.hd153129.specs.Port.{Access, refuse, nothing, accessRefusal, requestWrite, requestRead, request, altersDisplay}
 use Rattle.hd153129.specs.Painting.{paints}
 
 writes : (s : State) (n b : ℕ) → altersDisplay s (requestWrite (s .direction) n b) ≡ paints kinds.write n (s .direction) (s .cursor .position)
@@ -38,4 +38,7 @@ alters-exactly s e = by-kind (eqb (e .kind) kinds.write) refl
   where
     by-kind : (b : Bool) → eqb (e .kind) kinds.write ≡ b → altersDisplay s (request s e) ≡ paints (e .kind) (operandAt e 0) (s .direction) (s .cursor .position)
     by-kind true k = simp k (writes s (operandAt e 0) (operandAt e 1))
-    by-kind false k = simp k (cond-all (λ x. altersDisplay s x ≡ false) (eqb (e .kind) kinds.read) _ nothing (reads s (operandAt e 0)) refl)
+    by-kind false k =
+        simp k
+        (cond-all (λ x. altersDisplay s x ≡ false) (eqb (e .kind) kinds.read) _ _ (reads s (operandAt e 0))
+        (cond-all (λ x. altersDisplay s x ≡ false) (eqb (e .kind) kinds.load) (refuse 5) nothing refl refl))

@@ -4,7 +4,7 @@ use mathlib.Core.Bool.{Bool, true, false, not, _&&_, _||_}
 use mathlib.Core.List.{List, [], _∷_}
 use lib.Dec.{T, eqb}
 use lib.ListN.{replicate}
-use Rattle.event.specs.Kinds.{write, read}
+use Rattle.event.specs.Kinds.{write, read, load}
 use Rattle.event.specs.Table.{all, AccessRow, accessBy, agrees}
 use Rattle.hd153129.specs.Facts as facts
 use Rattle.hd153129.specs.State.{State}
@@ -47,6 +47,9 @@ table =
     ∷ row read 1 1 2 false
     ∷ row read 2 0 2 false
     ∷ row read 3 1 2 false
+    -- a load, which is refused
+    ∷ row load 1 0 2 false
+    ∷ row load 2 0 2 false
     ∷ []
 
 -- every row holds

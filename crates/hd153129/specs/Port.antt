@@ -46,12 +46,13 @@ requestRead direction selector =
     getAddress))
     (refuse (accessRefusal selector direction 0))
 
--- no other kind is an access
+-- 5: a load, which this chip doesn't have; no other kind is an access
 unfoldable pub request : State → Raw → Access
 request s e =
     cond (eqb (e .kind) kinds.write) (requestWrite (s .direction) (operandAt e 0) (operandAt e 1))
     (cond (eqb (e .kind) kinds.read) (requestRead (s .direction) (operandAt e 0))
-    nothing)
+    (cond (eqb (e .kind) kinds.load) (refuse 5)
+    nothing))
 
 -- What an access leaves. A colour write goes to the entry at the address, as chip 1's does; a colour read moves the counters on; an address read moves nothing.
 abbrev pub next : State → Access → State

@@ -1,6 +1,6 @@
--- Places in two parts, as each chip has them: n colours with one largest value, and the rest with a table of its own.
+-- Places in two parts, as each chip has them: those of an array, and the rest; each part with its own part of the table of largest values.
 use Prim.Native.Nat.{ℕ, zero, suc, _+_, _-_, _≤_, _<_}
-use mathlib.Core.Path.{_≡_}
+use mathlib.Core.Path.{_≡_, sym, _∙_}
 use mathlib.Core.List.{List, [], _∷_, _++_}
 use native.Mathlib.Omega.{arith}
 use borrow.Author.Tests.{ltb-true, ltb-false}
@@ -11,53 +11,92 @@ use Rattle.laws.proofs.Tests.{decide}
 use Rattle.snapshot.specs.Snapshot.{Valid}
 
 -- what holds of the two parts
+pub record Halves (front table array rest : List ℕ) : Type 0 where
+  pub long : length array ≡ length front
+  pub small : (i : ℕ) → getD array i 0 ≤ getD front i 0
+  pub rest-small : (k : ℕ) → getD rest k 0 ≤ getD table k 0
+
+module _ (front table : List ℕ) where
+  -- a place of the first part, and one of the second
+  first : (xs ys : List ℕ) (i : ℕ) → i < length xs → getD (xs ++ ys) i 0 ≡ getD xs i 0
+  first xs ys i h = List·getD-append xs ys 0 i h
+
+  second : (xs ys : List ℕ) (k : ℕ) → length xs ≡ length front → getD (xs ++ ys) (length front + k) 0 ≡ getD ys k 0
+  second xs ys k e = rw e at (getD-append-add xs ys k 0)
+
+  pub halves-valid : (array rest : List ℕ) → length rest ≡ length table → Halves front table array rest → Valid (front ++ table) (array ++ rest)
+  halves-valid array rest same p = record {
+    long = simp length-append (omega (arith, p .long));
+    small = λ i. decide (getD (array ++ rest) i 0 ≤ getD (front ++ table) i 0) (ltb i (length front))
+        (λ e. let h : i < length front = ltb-true i (length front) e in
+        rw (first array rest i (omega (arith, p .long)), first front table i h) (p .small i))
+        (λ e. let k : ℕ = i - length front in
+        let at : i ≡ length front + k = omega (arith, ltb-false i (length front) e) in
+        rw (at, second array rest k (p .long), getD-append-add front table k 0) (p .rest-small k));
+  }
+
+  pub valid-halves : (array rest : List ℕ) → length rest ≡ length table → Valid (front ++ table) (array ++ rest) → Halves front table array rest
+  valid-halves array rest same v =
+      let long : length array ≡ length front = omega (arith, simp length-append at (v .long)) in
+      record {
+        long = long;
+        small = λ i. decide (getD array i 0 ≤ getD front i 0) (ltb i (length front))
+            (λ e. let h : i < length front = ltb-true i (length front) e in
+            let le : getD (array ++ rest) i 0 ≤ getD (front ++ table) i 0 = v .small i in
+            rw (first array rest i (omega (arith, long)), first front table i h) at le)
+            (λ e. rw (List·getD-eq-default array 0 {n = i} (omega (arith, long, ltb-false i (length front) e))) (omega arith));
+        rest-small = λ k.
+            let le : getD (array ++ rest) (length front + k) 0 ≤ getD (front ++ table) (length front + k) 0 = v .small (length front + k) in
+            rw (second array rest k long, getD-append-add front table k 0) at le;
+      }
+
+  -- valid places are two such parts
+  pub places-halves : (l : List ℕ) (n : ℕ) → length front ≡ n → Valid (front ++ table) l → Halves front table (take n l) (drop n l)
+  places-halves l n e v =
+      let long : length l ≡ length front + length table = simp length-append at (v .long) in
+      let same : length (drop n l) ≡ length table = simp length-drop (omega arith) in
+      valid-halves (take n l) (drop n l) same (rw (take-append-drop n l) v)
+
+-- ---- an array of n colours with one largest value
+
 pub record Parts (n top : ℕ) (table colours rest : List ℕ) : Type 0 where
   pub long : length colours ≡ n
   pub small : (i : ℕ) → getD colours i 0 ≤ top
   pub rest-small : (k : ℕ) → getD rest k 0 ≤ getD table k 0
 
-module _ (n top : ℕ) (table : List ℕ) where
-  -- a place of the first part, and one of the second
-  first : (xs ys : List ℕ) (i : ℕ) → length xs ≡ n → i < n → getD (xs ++ ys) i 0 ≡ getD xs i 0
-  first xs ys i e h = List·getD-append xs ys 0 i (omega arith)
-
-  second : (xs ys : List ℕ) (k : ℕ) → length xs ≡ n → getD (xs ++ ys) (n + k) 0 ≡ getD ys k 0
-  second xs ys k e = rw e at (getD-append-add xs ys k 0)
-
-  pub parts-valid : (colours rest : List ℕ) → length rest ≡ length table → Parts n top table colours rest → Valid (replicate n top ++ table) (colours ++ rest)
-  parts-valid colours rest same p = record {
-    long = simp (length-append, length-replicate) (omega (arith, p .long));
-    small = λ i. decide (getD (colours ++ rest) i 0 ≤ getD (replicate n top ++ table) i 0) (ltb i n)
-        (λ e. let h : i < n = ltb-true i n e in
-        rw (first colours rest i (p .long) h, first (replicate n top) table i (length-replicate n top) h, getD-replicate n i top 0 h) (p .small i))
-        (λ e. let k : ℕ = i - n in
-        let at : i ≡ n + k = omega (arith, ltb-false i n e) in
-        rw (at, second colours rest k (p .long), second (replicate n top) table k (length-replicate n top)) (p .rest-small k));
+module _ (n top : ℕ) (table colours rest : List ℕ) where
+  parts-halves : Parts n top table colours rest → Halves (replicate n top) table colours rest
+  parts-halves p = record {
+    long = p .long ∙ sym (length-replicate n top);
+    small = λ i. decide (getD colours i 0 ≤ getD (replicate n top) i 0) (ltb i n)
+        (λ e. rw (getD-replicate n i top 0 (ltb-true i n e)) (p .small i))
+        (λ e. rw (List·getD-eq-default colours 0 {n = i} (omega (arith, p .long, ltb-false i n e))) (omega arith));
+    rest-small = p .rest-small;
   }
 
-  pub valid-parts : (colours rest : List ℕ) → length rest ≡ length table → Valid (replicate n top ++ table) (colours ++ rest) → Parts n top table colours rest
-  valid-parts colours rest same v =
-      let long : length colours ≡ n = omega (arith, simp (length-append, length-replicate) at (v .long)) in
+  halves-parts : Halves (replicate n top) table colours rest → Parts n top table colours rest
+  halves-parts p =
+      let long : length colours ≡ n = p .long ∙ length-replicate n top in
       record {
         long = long;
         small = λ i. decide (getD colours i 0 ≤ top) (ltb i n)
-            (λ e. let h : i < n = ltb-true i n e in
-            let le : getD (colours ++ rest) i 0 ≤ getD (replicate n top ++ table) i 0 = v .small i in
-            rw (first colours rest i long h, first (replicate n top) table i (length-replicate n top) h, getD-replicate n i top 0 h) at le)
-            (λ e. rw (List·getD-eq-default colours 0 {n = i} (omega (arith, ltb-false i n e))) (omega arith));
-        rest-small = λ k.
-            let le : getD (colours ++ rest) (n + k) 0 ≤ getD (replicate n top ++ table) (n + k) 0 = v .small (n + k) in
-            rw (second colours rest k long, second (replicate n top) table k (length-replicate n top)) at le;
+            (λ e. rw (getD-replicate n i top 0 (ltb-true i n e)) at (p .small i))
+            (λ e. rw (List·getD-eq-default colours 0 {n = i} (omega (arith, long, ltb-false i n e))) (omega arith));
+        rest-small = p .rest-small;
       }
 
-  -- valid places are two such parts
-  pub places-parts : (l : List ℕ) → Valid (replicate n top ++ table) l → Parts n top table (take n l) (drop n l)
-  places-parts l v =
-      let long : length l ≡ n + length table = simp (length-append, length-replicate) at (v .long) in
-      let same : length (drop n l) ≡ length table = simp length-drop (omega arith) in
-      valid-parts (take n l) (drop n l) same (rw (take-append-drop n l) v)
+module _ (n top : ℕ) (table : List ℕ) where
+  pub parts-valid : (colours rest : List ℕ) → length rest ≡ length table → Parts n top table colours rest → Valid (replicate n top ++ table) (colours ++ rest)
+  parts-valid colours rest same p = halves-valid (replicate n top) table colours rest same (parts-halves n top table colours rest p)
 
--- the second part, value by value
+  pub valid-parts : (colours rest : List ℕ) → length rest ≡ length table → Valid (replicate n top ++ table) (colours ++ rest) → Parts n top table colours rest
+  valid-parts colours rest same v = halves-parts n top table colours rest (valid-halves (replicate n top) table colours rest same v)
+
+  pub places-parts : (l : List ℕ) → Valid (replicate n top ++ table) l → Parts n top table (take n l) (drop n l)
+  places-parts l v = halves-parts n top table (take n l) (drop n l) (places-halves (replicate n top) table l n (length-replicate n top) v)
+
+-- ---- the second part, value by value
+
 abbrev pub Each : List ℕ → List ℕ → Type 0
 Each table [] = Unit {0}
 Each [] (v ∷ vs) = ⊥

@@ -2,7 +2,8 @@
 use Prim.Native.Nat.{ℕ, zero, suc, _+_, _≤_, _<_}
 use mathlib.Core.Path.{_≡_, refl, sym, _∙_, ap}
 use mathlib.Core.Bool.{Bool, true, false, cond, _&&_, and-false, false≢true}
-use mathlib.Core.List.{List, [], _∷_}
+use mathlib.Core.List.{List, [], _∷_, _++_}
+use native.Mathlib.Nat.{add-zero}
 use native.Mathlib.Numerals.{add-one}
 use native.Mathlib.Omega.{arith}
 use borrow.Author.Tests.{le-leb, lt-leb, leb-true, eqb-false}
@@ -90,6 +91,13 @@ fitting t l e = valid t l (needed (within t l) 0 25 (eqb-false 25 0 refl) e .0)
 pub fits : (t l : List ℕ) → Valid t l → valueRefusal t l ≡ 0
 unfolding valueRefusal
 fits t l v = simp (valid-within t l v)
+
+-- values with 0 at some places, of two lists one behind the other
+pub except-append : (test : ℕ → Bool) (i : ℕ) (xs ys : List ℕ) → exceptFrom i test (xs ++ ys) ≡ exceptFrom i test xs ++ exceptFrom (i + length xs) test ys
+except-append test i [] ys = ap (λ n. exceptFrom n test ys) (sym (add-zero i))
+except-append test i (x ∷ xs) ys =
+    let e : suc i + length xs ≡ i + suc (length xs) = omega arith in
+    ap (λ r. cond (test i) 0 x ∷ r) (except-append test (suc i) xs ys ∙ ap (λ n. exceptFrom (suc i) test xs ++ exceptFrom n test ys) e)
 
 -- values with 0 at no place
 pub except-none : (test : ℕ → Bool) (i : ℕ) (l : List ℕ) → ((n : ℕ) → test n ≡ false) → exceptFrom i test l ≡ l

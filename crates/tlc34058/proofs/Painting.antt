@@ -9,7 +9,7 @@ use Rattle.laws.proofs.Tests.{cond-all}
 use Rattle.event.specs.Kinds as kinds
 use Rattle.event.specs.Event.{Raw, operandAt}
 use Rattle.tlc34058.specs.State.{Port}
-use Rattle.tlc34058.specs.Port.{accessRefusal, nothing, select, writing, request, altersDisplay}
+use Rattle.tlc34058.specs.Port.{accessRefusal, refuse, nothing, select, writing, request, altersDisplay}
 use Rattle.tlc34058.specs.Painting.{paints}
 use Rattle.tlc34058.proofs.Sound.{select-all}
 
@@ -50,5 +50,6 @@ alters-exactly p e = by-kind (eqb (e .kind) kinds.write) refl
     by-kind true k = simp k (writes p (operandAt e 0) (p .cursor .address) (operandAt e 1))
     by-kind false k =
         simp k
-        (cond-all (λ x. altersDisplay p x ≡ false) (eqb (e .kind) kinds.read) _ nothing
-        (select-all (λ x. altersDisplay p x ≡ false) (operandAt e 0) (p .cursor .address) _ _ _ (λ n. refl) refl (λ n. refl) (λ n. refl)) refl)
+        (cond-all (λ x. altersDisplay p x ≡ false) (eqb (e .kind) kinds.read) _ _
+        (select-all (λ x. altersDisplay p x ≡ false) (operandAt e 0) (p .cursor .address) _ _ _ (λ n. refl) refl (λ n. refl) (λ n. refl))
+        (cond-all (λ x. altersDisplay p x ≡ false) (eqb (e .kind) kinds.load) (refuse 5) nothing refl refl))

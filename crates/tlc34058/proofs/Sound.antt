@@ -56,9 +56,9 @@ unfolding request
 request-byte p e h =
     cond-all Byte (eqb (e .kind) kinds.write) _ _
     (select-all Byte (operandAt e 0) (p .cursor .address) _ _ _ (λ k. tt) h (λ k. h) (λ k. h))
-    (cond-all Byte (eqb (e .kind) kinds.read) _ nothing
+    (cond-all Byte (eqb (e .kind) kinds.read) _ _
     (select-all Byte (operandAt e 0) (p .cursor .address) _ _ _ (λ k. tt) tt (λ k. tt) (λ k. tt))
-    tt)
+    (cond-all Byte (eqb (e .kind) kinds.load) (refuse 5) nothing tt tt))
 
 sound-register : (r : Registers) (a b : ℕ) → b ≤ 255 → SoundRegisters r → SoundRegisters (withRegister r a b)
 unfolding withRegister

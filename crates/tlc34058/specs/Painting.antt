@@ -4,7 +4,7 @@ use mathlib.Core.Bool.{Bool, true, false, not, _&&_, _||_}
 use mathlib.Core.List.{List, [], _∷_}
 use lib.Dec.{T, eqb, ltb}
 use lib.ListN.{replicate}
-use Rattle.event.specs.Kinds.{write, read}
+use Rattle.event.specs.Kinds.{write, read, load}
 use Rattle.event.specs.Table.{all, AccessRow, accessBy, agrees}
 use Rattle.tlc34058.specs.Facts as facts
 use Rattle.tlc34058.specs.State.{Port}
@@ -57,6 +57,9 @@ table =
     ∷ row read 1 5 2 false
     ∷ row read 2 5 2 false
     ∷ row read 3 2 2 false
+    -- a load, which is refused
+    ∷ row load 1 5 2 false
+    ∷ row load 2 5 2 false
     ∷ []
 
 -- every row holds

@@ -43,12 +43,13 @@ writing address selector byte = select selector address (setAddress byte) (λ n.
 abbrev pub reading : ℕ → ℕ → Access
 reading address selector = select selector address getAddress getColour getRegister
 
--- a write writes operand byte 1, a read reads; no other kind is an access
+-- a write writes operand byte 1, a read reads; 5: a load, which this chip doesn't have; no other kind is an access
 unfoldable pub request : Port → Raw → Access
 request p e =
     cond (eqb (e .kind) kinds.write) (writing (p .cursor .address) (operandAt e 0) (operandAt e 1))
     (cond (eqb (e .kind) kinds.read) (reading (p .cursor .address) (operandAt e 0))
-    nothing)
+    (cond (eqb (e .kind) kinds.load) (refuse 5)
+    nothing))
 
 -- the register at an address from 04h to 07h
 unfoldable pub register : Registers → ℕ → ℕ

@@ -1,0 +1,38 @@
+-- The state that the structs of the code stand for.
+use Prim.Native.Nat.{ℕ}
+use mathlib.Core.Path.{_≡_}
+use mathlib.Core.List.{List}
+use Rattle.event.specs.Answer.{bytesOf}
+use Rattle.event.specs.Event.{Outcome}
+use Rattle.tms34070.specs.State.{Colour, State}
+use Rattle.tms34070.specs.Load.{Access, next, reply}
+use Rattle.tms34070.specs.declared.Colour as colour
+use Rattle.tms34070.specs.declared.Control as control
+use Rattle.tms34070.specs.declared.Tms34070 as code
+use Rattle.tms34070.specs.declared.Outcome as outcome
+
+abbrev pub colourIs : colour.Colour → Colour
+colourIs c = record { red = c .red; green = c .green; blue = c .blue }
+
+-- the registers' values, and all the rest
+abbrev pub joined : List ℕ → control.Control → State
+joined values c = record {
+  port = record { values = values; position = c .position; heldRed = c .«held_red»; heldBits = c .«held_bits» };
+  before = colourIs (c .before);
+}
+
+abbrev pub stateOf : code.Tms34070 → State
+stateOf s = record {
+  port = record { values = s .registers; position = s .position; heldRed = s .«held_red»; heldBits = s .«held_bits» };
+  before = colourIs (s .before);
+}
+
+-- what an event called by itself answers and leaves
+pub record OutcomeIs (o : Outcome State) (r : outcome.Outcome) : Type 0 where
+  pub answer : r .answer ≡ bytesOf (o .answer)
+  pub state : stateOf (r .state) ≡ o .state
+
+-- what an access leaves and answers
+pub record Accessed (before after : State) (x : Access) (part : List ℕ) : Type 0 where
+  pub state : after ≡ record { port = next (before .port) x; before = before .before }
+  pub answer : part ≡ bytesOf (reply x)

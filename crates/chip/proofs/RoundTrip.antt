@@ -9,14 +9,16 @@ use Rattle.snapshot.specs.Snapshot.{refusalFor}
 use Rattle.snapshot.proofs.Pairs.{accepted}
 use Rattle.tlc34058.proofs.Saved as saved₁
 use Rattle.hd153129.proofs.Saved as saved₂
-use Rattle.chip.specs.Chip.{State, tlc34058, hd153129, unbuilt, freshWhole, freshState, numberOf, largestOf, isBuilt, decodedAs, snapshotRefusal, restore, saved}
-use Rattle.chip.proofs.Named.{named-tlc34058, named-hd153129, refusal-as, restore-as, restore-by}
+use Rattle.tms34070.proofs.Saved as saved₃
+use Rattle.chip.specs.Chip.{State, tlc34058, hd153129, tms34070, unbuilt, freshWhole, freshState, numberOf, largestOf, isBuilt, decodedAs, snapshotRefusal, restore, saved}
+use Rattle.chip.proofs.Named.{named-tlc34058, named-hd153129, named-tms34070, refusal-as, restore-as, restore-by}
 use Rattle.chip.proofs.Shuffled.{Sound}
 
 -- a sound state's snapshot isn't refused as one of its own chip
 own-accepted : (s : State) → Sound s → refusalFor (numberOf s) (largestOf s) (saved s) ≡ 0
 own-accepted (tlc34058 s) v = saved₁.saved-accepted s v
 own-accepted (hd153129 s) v = saved₂.saved-accepted s v
+own-accepted (tms34070 s) v = saved₃.saved-accepted s v
 own-accepted (unbuilt n) v = absurd v
 
 -- the fresh chip that its first byte names
@@ -26,16 +28,19 @@ Fresh s c = (numberOf c ≡ numberOf s) × (largestOf c ≡ largestOf s) × (isB
 names : (s : State) (n : ℕ) → Sound s → n ≡ numberOf s → Fresh s (freshState n)
 names (tlc34058 s) n v e = rw (named-tlc34058 (freshWhole n) e) (refl, refl, refl, λ b. refl)
 names (hd153129 s) n v e = rw (named-hd153129 (freshWhole n) e) (refl, refl, refl, λ b. refl)
+names (tms34070 s) n v e = rw (named-tms34070 (freshWhole n) e) (refl, refl, refl, λ b. refl)
 names (unbuilt n) m v e = absurd v
 
 decoded-same : (s : State) → Sound s → decodedAs s (saved s) ≡ s
 decoded-same (tlc34058 s) v = ap tlc34058 (saved₁.saved-same s v)
 decoded-same (hd153129 s) v = ap hd153129 (saved₂.saved-same s v)
+decoded-same (tms34070 s) v = ap tms34070 (saved₃.saved-same s v)
 decoded-same (unbuilt n) v = absurd v
 
 built : (s : State) → Sound s → isBuilt s ≡ true
 built (tlc34058 s) v = refl
 built (hd153129 s) v = refl
+built (tms34070 s) v = refl
 built (unbuilt n) v = absurd v
 
 module _ (s : State) (v : Sound s) where
@@ -54,4 +59,4 @@ module _ (s : State) (v : Sound s) where
 
 -- for every accepted snapshot, restoring and then saving gives the same bytes
 pub bytes-back : (b : List ℕ) → AllBytes b → snapshotRefusal b ≡ 0 → saved (restore b) ≡ b
-bytes-back b small h = restore-by b (λ s. saved s ≡ b) h (λ e ok. saved₁.bytes-back b small ok) (λ e ok. saved₂.bytes-back b small ok)
+bytes-back b small h = restore-by b (λ s. saved s ≡ b) h (λ e ok. saved₁.bytes-back b small ok) (λ e ok. saved₂.bytes-back b small ok) (λ e ok. saved₃.bytes-back b small ok)

@@ -10,6 +10,7 @@ use Rattle.event.specs.Answer.{bytesOf}
 use Rattle.event.specs.Event.{Outcome}
 use Rattle.tlc34058.specs.Struct as struct₁
 use Rattle.hd153129.specs.Struct as struct₂
+use Rattle.tms34070.specs.Struct as struct₃
 use Rattle.chip.specs.Chip.{State, Whole, named, put, restoredWhole, saved, saveRefusal, snapshotRefusal}
 use Rattle.chip.specs.declared.Chip as code
 use Rattle.chip.specs.declared.Outcome as outcome
@@ -17,7 +18,12 @@ use Rattle.chip.specs.declared.Saved as saving
 use Rattle.chip.specs.declared.Restored as restoring
 
 abbrev pub wholeOf : code.Chip → Whole
-wholeOf c = record { number = c .number; tlc34058 = struct₁.stateOf (c .tlc34058); hd153129 = struct₂.stateOf (c .hd153129) }
+wholeOf c = record {
+  number = c .number;
+  tlc34058 = struct₁.stateOf (c .tlc34058);
+  hd153129 = struct₂.stateOf (c .hd153129);
+  tms34070 = struct₃.stateOf (c .tms34070);
+}
 
 abbrev pub stateOf : code.Chip → State
 stateOf c = named (wholeOf c)

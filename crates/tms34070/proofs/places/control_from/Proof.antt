@@ -1,44 +1,34 @@
-use Rattle.tms34070.specs.Places.{stateFrom}
+-- `control_from` meets its contract.
 use mathlib.Core.Path.{refl}
+use Rattle.tms34070.specs.Places.{stateFrom}
 use borrow.Author.Needs.{needs}
 use Rattle.tms34070.proofs.places.control_from.Statement.{statement}
 use Rattle.tms34070.proofs.places.control_from.Tie as tie
-use Rattle.tms34070.proofs.places.control_from.Reads as reads
-use Rattle.tms34070.proofs.places.control_from.Lts as lts
 
--- src/places.rt:141:19
 array-read-t5 : tie.Need-array-read-t5
 array-read-t5 c = search needs
 
--- src/places.rt:142:19
 array-read-t8 : tie.Need-array-read-t8
 array-read-t8 c = search needs
 
--- src/places.rt:143:20
 array-read-t11 : tie.Need-array-read-t11
 array-read-t11 c = search needs
 
--- src/places.rt:145:18
 array-read-t14 : tie.Need-array-read-t14
 array-read-t14 c = search needs
 
--- src/places.rt:146:27
 add-t15 : tie.Need-add-t15
 add-t15 c = search needs
 
--- src/places.rt:146:20
 array-read-t18 : tie.Need-array-read-t18
 array-read-t18 c = search needs
 
--- src/places.rt:147:26
 add-t19 : tie.Need-add-t19
 add-t19 c = search needs
 
--- src/places.rt:147:19
 array-read-t22 : tie.Need-array-read-t22
 array-read-t22 c = search needs
 
--- src/places.rt:137:1
 returns : tie.Need-returns
 unfolding stateFrom
 returns c =

@@ -1,59 +1,48 @@
+-- `put_pixels` meets its contract.
 use mathlib.Core.Path.{refl}
-use Rattle.event.specs.Answer.{bytesOf}
 use lib.ListN.{length-set}
+use Rattle.event.specs.Answer.{bytesOf}
 use borrow.Author.Needs.{needs}
 use Rattle.tms34070.proofs.tick.put_pixels.Statement.{statement}
 use Rattle.tms34070.proofs.tick.put_pixels.Tie as tie
-use Rattle.tms34070.proofs.tick.put_pixels.Reads as reads
-use Rattle.tms34070.proofs.tick.put_pixels.Lts as lts
-use Rattle.event.proofs.put_answer.Reads as put-answer-reads
 
--- src/tick.rt:62:5
 put-answer-requires : tie.Need-put-answer-requires
 put-answer-requires c κs = search needs
 
--- src/tick.rt:63:5
 slice-write-part : tie.Need-slice-write-part
 slice-write-part c = search needs
 
--- src/tick.rt:64:5
 slice-write-part-2 : tie.Need-slice-write-part-2
 slice-write-part-2 c = search needs
 
--- src/tick.rt:65:5
 slice-write-part-3 : tie.Need-slice-write-part-3
 slice-write-part-3 c =
     simp length-set (search needs)
 
--- src/tick.rt:66:5
 slice-write-part-4 : tie.Need-slice-write-part-4
 slice-write-part-4 c =
     simp length-set (search needs)
 
--- src/tick.rt:67:5
 slice-write-part-5 : tie.Need-slice-write-part-5
 slice-write-part-5 c =
     simp length-set (search needs)
 
--- src/tick.rt:68:5
 slice-write-part-6 : tie.Need-slice-write-part-6
 slice-write-part-6 c =
     simp length-set (search needs)
 
--- src/tick.rt:69:5
 slice-write-part-7 : tie.Need-slice-write-part-7
 slice-write-part-7 c =
     simp length-set (search needs)
 
--- src/tick.rt:58:1
 same-length : tie.Need-same-length
 same-length c = search needs
 
--- src/tick.rt:58:1
 returns : tie.Need-returns
 unfolding bytesOf
 returns c =
-    rw (c .before .before .put-answer .ensures) refl
+    let put-answer = c .before .before .put-answer in
+    rw (put-answer .ensures) refl
 
 pub put-pixels-spec : {M : Type 1} → statement M
 put-pixels-spec =

@@ -6,4 +6,5 @@ mod Runs
 pub mod Demand1
 pub mod Demand2
 pub mod Demand3
+pub mod FirstChips
 pub mod Witnesses

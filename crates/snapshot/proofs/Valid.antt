@@ -99,6 +99,12 @@ except-append test i (x ∷ xs) ys =
     let e : suc i + length xs ≡ i + suc (length xs) = omega arith in
     ap (λ r. cond (test i) 0 x ∷ r) (except-append test (suc i) xs ys ∙ ap (λ n. exceptFrom (suc i) test xs ++ exceptFrom n test ys) e)
 
+-- the others are as they were
+pub except-at : (test : ℕ → Bool) (i : ℕ) (l : List ℕ) (k : ℕ) → test (i + k) ≡ false → getD (exceptFrom i test l) k 0 ≡ getD l k 0
+except-at test i [] k h = refl
+except-at test i (x ∷ l) zero h = let is : test i ≡ false = ap test (sym (add-zero i)) ∙ h in simp is
+except-at test i (x ∷ l) (suc k) h = let e : suc i + k ≡ i + suc k = omega arith in except-at test (suc i) l k (ap test e ∙ h)
+
 -- values with 0 at no place
 pub except-none : (test : ℕ → Bool) (i : ℕ) (l : List ℕ) → ((n : ℕ) → test n ≡ false) → exceptFrom i test l ≡ l
 except-none test i [] none = refl

@@ -6,6 +6,7 @@ ghost use Prim.Native.Nat.{_≤_};
 ghost use lib.ListN.{length};
 ghost use Rattle.tlc34058.specs.Places as places₁;
 ghost use Rattle.hd153129.specs.Places as places₂;
+ghost use Rattle.tms34070.specs.Places as places₃;
 ghost use Rattle.chip.specs.Struct.{wholeOf};
 use chip::Chip;
 use libc::STDIN_FILENO;
@@ -18,13 +19,19 @@ const ROOM: usize = 4096;
 const MOST_CALLS: usize = 65536;
 
 // The state with this chip byte and these places.
-fn chip_from(number: u8, tlc34058: [u8; tlc34058::PLACES], hd153129: [u8; hd153129::PLACES]) -> Chip
-    ensures { λ r. ⌜ wholeOf r ≡ record { number = number; tlc34058 = places₁.stateFrom tlc34058; hd153129 = places₂.stateFrom hd153129 } ⌝ }
+fn chip_from(
+    number: u8,
+    tlc34058: [u8; tlc34058::PLACES],
+    hd153129: [u8; hd153129::PLACES],
+    tms34070: [u8; tms34070::PLACES],
+) -> Chip
+    ensures { λ r. ⌜ wholeOf r ≡ record { number = number; tlc34058 = places₁.stateFrom tlc34058; hd153129 = places₂.stateFrom hd153129; tms34070 = places₃.stateFrom tms34070 } ⌝ }
 {
     Chip {
         number,
         tlc34058: tlc34058::from_places(tlc34058),
         hd153129: hd153129::from_places(hd153129),
+        tms34070: tms34070::from_places(tms34070),
     }
 }
 
@@ -32,10 +39,12 @@ fn read_chip() -> Chip {
     let mut number = [0u8; 1];
     let mut tlc34058 = [0u8; tlc34058::PLACES];
     let mut hd153129 = [0u8; hd153129::PLACES];
+    let mut tms34070 = [0u8; tms34070::PLACES];
     io::read_full(STDIN_FILENO, &mut number);
     io::read_full(STDIN_FILENO, &mut tlc34058);
     io::read_full(STDIN_FILENO, &mut hd153129);
-    chip_from(number[0], tlc34058, hd153129)
+    io::read_full(STDIN_FILENO, &mut tms34070);
+    chip_from(number[0], tlc34058, hd153129, tms34070)
 }
 
 fn print_digits(bytes: &[u8])
@@ -55,9 +64,11 @@ fn print_chip(chip: Chip) {
     let number = [chip.number; 1];
     let tlc34058 = tlc34058::to_places(chip.tlc34058);
     let hd153129 = hd153129::to_places(chip.hd153129);
+    let tms34070 = tms34070::to_places(chip.tms34070);
     print_digits(&number);
     print_digits(&tlc34058);
     print_digits(&hd153129);
+    print_digits(&tms34070);
     end_line();
 }
 

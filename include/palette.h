@@ -1,7 +1,7 @@
 /*
  * palette.h: runs a log of events on a model of a video palette chip,
- * the TLC34058 (chip 1) or the HD153129 (chip 2), and gives the output
- * currents of a TLC34058.
+ * the TLC34058 (chip 1), the HD153129 (chip 2) or the TMS34070 (chip 3), and
+ * gives the output currents of a TLC34058.
  *
  * Snapshots, logs and answers are byte strings; docs/FORMATS.md describes
  * them. Link with libpalette.a. C99 or later, or C++.
@@ -18,7 +18,7 @@ extern "C" {
 
 /* The version: three numbers for #if, and the text "major.minor.patch". */
 #define PALETTE_VERSION_MAJOR 0
-#define PALETTE_VERSION_MINOR 3
+#define PALETTE_VERSION_MINOR 4
 #define PALETTE_VERSION_PATCH 0
 #define PALETTE_VERSION                                                        \
     PALETTE_VERSION_TEXT(PALETTE_VERSION_MAJOR, PALETTE_VERSION_MINOR,         \
@@ -29,19 +29,26 @@ extern "C" {
     PALETTE_VERSION_TEXT_(major, minor, patch)
 #define PALETTE_VERSION_TEXT_(major, minor, patch) #major "." #minor "." #patch
 
-/* The chip byte, which starts every snapshot and every log. */
+/* The chip byte, which starts every snapshot and every log. A library before
+ * version 0.4.0 has no TMS34070: it refuses its snapshots with
+ * PALETTE_REFUSED_SNAPSHOT_CHIP and its logs with PALETTE_REFUSED_LOG_CHIP. */
 enum palette_chip {
     PALETTE_CHIP_TLC34058 = 1,
-    PALETTE_CHIP_HD153129 = 2
+    PALETTE_CHIP_HD153129 = 2,
+    PALETTE_CHIP_TMS34070 = 3
 };
 
-/* The kind byte of an event. */
+/* The kind byte of an event. Any chip's log may hold any of them; an event that
+ * the chip doesn't have is answered with PALETTE_REFUSED_NOT_ON_CHIP. A library
+ * before version 0.4.0 refuses a log that holds a load with
+ * PALETTE_REFUSED_LOG_KIND. */
 enum palette_kind {
     PALETTE_KIND_WRITE = 0,
     PALETTE_KIND_READ = 1,
     PALETTE_KIND_TICK = 2,
     PALETTE_KIND_VERTICAL = 3,
-    PALETTE_KIND_SAVE = 4
+    PALETTE_KIND_SAVE = 4,
+    PALETTE_KIND_LOAD = 5
 };
 
 /*
@@ -59,6 +66,7 @@ enum palette_kind {
 /* How many places each chip has, and the most that any chip has. */
 #define PALETTE_TLC34058_PLACES 789
 #define PALETTE_HD153129_PLACES 774
+#define PALETTE_TMS34070_PLACES 86
 #define PALETTE_MOST_PLACES PALETTE_TLC34058_PLACES
 /* The smallest end buffer that is accepted, whatever snapshot it will hold:
  * 2,370 bytes, the longest snapshot of any chip. */
@@ -89,7 +97,14 @@ enum palette_kind {
  * Answers.
  */
 
-/* Event i's answer starts at byte PALETTE_ANSWER_BYTES * i. */
+/* Event i's answer starts at byte PALETTE_ANSWER_BYTES * i. Byte 0 is 0 or the
+ * refusal. A read has its byte in byte 1. A tick has its number of pixels in
+ * byte 1, its levels in byte 2, and red, green and blue of each pixel from
+ * byte 3. Every other byte is 0.
+ *
+ * A TMS34070's tick has two pixels, DA and DB, with codes of 4 bits, and in byte
+ * 2 DATEN (bit 0) and the EXT bits of DA (bit 1) and of DB (bit 2); with DATEN
+ * low byte 2 and all codes are 0. */
 #define PALETTE_ANSWER_BYTES 18
 /* An answer buffer of this size is enough for every log. In a program that was
  * compiled with a header before version 0.3.0 it has 54,000 bytes, and for a log
@@ -157,7 +172,8 @@ enum palette_refusal {
     /* Not refused. */
     PALETTE_ACCEPTED = 0,
 
-    /* In an answer: the selector of a write or read is over 3. */
+    /* In an answer, TLC34058 and HD153129: the selector of a write or read is
+     * over 3. */
     PALETTE_REFUSED_SELECTOR = 1,
     /* In an answer, TLC34058: an overlay access with the address over 3, or a
      * control access with the address outside 4 to 7. */
@@ -165,9 +181,12 @@ enum palette_refusal {
     /* In an answer, HD153129: a colour write in direction read, or a colour
      * read in direction write. */
     PALETTE_REFUSED_DIRECTION = 3,
-    /* In an answer: a tick with OL bits 5 to 7 or undefined level bits set. */
+    /* In an answer: a tick with undefined level bits set; TLC34058: a tick with
+     * OL bits 5 to 7 set; TMS34070: a load or a tick with DA or DB over 15. */
     PALETTE_REFUSED_UNDEFINED_BITS = 4,
-    /* In an answer, HD153129: a vertical period. */
+    /* In an answer: an event that the chip doesn't have. TLC34058: a load.
+     * HD153129: a vertical period or a load. TMS34070: a write or a read,
+     * whatever its selector, or a vertical period. */
     PALETTE_REFUSED_NOT_ON_CHIP = 5,
 
     /* Of a run: the log has under PALETTE_LOG_HEADER_BYTES bytes. */
@@ -189,7 +208,9 @@ enum palette_refusal {
     PALETTE_REFUSED_SNAPSHOT_SHORT = 20,
     /* The snapshot's chip byte isn't one of enum palette_chip. */
     PALETTE_REFUSED_SNAPSHOT_CHIP = 21,
-    /* The snapshot's count N is over the chip's number of places. */
+    /* The snapshot's count N is over the chip's number of places,
+     * PALETTE_TLC34058_PLACES, PALETTE_HD153129_PLACES or
+     * PALETTE_TMS34070_PLACES. */
     PALETTE_REFUSED_SNAPSHOT_COUNT = 22,
     /* The snapshot's length isn't PALETTE_SNAPSHOT_BYTES(N). */
     PALETTE_REFUSED_SNAPSHOT_LENGTH = 23,

@@ -6,13 +6,15 @@
 /* A false fact is an array of negative size, in every language version. */
 #define FACT(name, holds) typedef char fact_##name[(holds) ? 1 : -1]
 
-FACT(chips, PALETTE_CHIP_TLC34058 == 1 && PALETTE_CHIP_HD153129 == 2);
+FACT(chips, PALETTE_CHIP_TLC34058 == 1 && PALETTE_CHIP_HD153129 == 2 &&
+                PALETTE_CHIP_TMS34070 == 3);
 FACT(kinds, PALETTE_KIND_WRITE == 0 && PALETTE_KIND_READ == 1 && PALETTE_KIND_TICK == 2 &&
-                PALETTE_KIND_VERTICAL == 3 && PALETTE_KIND_SAVE == 4);
+                PALETTE_KIND_VERTICAL == 3 && PALETTE_KIND_SAVE == 4 && PALETTE_KIND_LOAD == 5);
 
 FACT(snapshot_parts, PALETTE_SNAPSHOT_HEADER_BYTES == 3 && PALETTE_PLACE_BYTES == 3);
 FACT(snapshot, PALETTE_SNAPSHOT_BYTES(0) == 3 && PALETTE_SNAPSHOT_BYTES(1 + 1) == 9);
-FACT(places, PALETTE_TLC34058_PLACES == 789 && PALETTE_HD153129_PLACES == 774);
+FACT(places, PALETTE_TLC34058_PLACES == 789 && PALETTE_HD153129_PLACES == 774 &&
+                 PALETTE_TMS34070_PLACES == 86);
 FACT(most_places, PALETTE_MOST_PLACES == 789);
 FACT(end, PALETTE_END_BYTES == 2370);
 FACT(log_parts, PALETTE_LOG_HEADER_BYTES == 5 && PALETTE_OPERAND_BYTES == 8 &&

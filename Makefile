@@ -71,7 +71,7 @@ target/examples/restore: examples/restore.c include/palette.h $(LIBPALETTE)
 	@mkdir -p $(@D)
 	@$(CC) $(WARNINGS) $(CFLAGS) -Iinclude examples/restore.c $(LIBPALETTE) $(LDLIBS) -o $@
 
-examples: target/examples/first.log target/examples/second.log target/examples/restore ## the sample logs and the example program
+examples: target/examples/first.log target/examples/second.log target/examples/third.log target/examples/restore ## the sample logs and the example program
 
 # Its build sees whether the library has changed.
 compare-build: $(LIBPALETTE) ## build the comparison with the second model

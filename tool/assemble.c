@@ -53,7 +53,8 @@ static bool add_read(const struct text *text, struct draft *draft)
 static bool add_tick(const struct text *text, struct draft *draft)
 {
     uint8_t operand[PALETTE_OPERAND_BYTES];
-    return tick(text, draft->chip, operand) && add_event(text, draft, PALETTE_KIND_TICK, operand);
+    return operand_bytes(text, &draft->chip->tick, operand) &&
+           add_event(text, draft, PALETTE_KIND_TICK, operand);
 }
 
 _Static_assert(PALETTE_MOST_EVENTS < TOO_LARGE, "no log has so many events");
@@ -78,12 +79,20 @@ static bool add_save(const struct text *text, struct draft *draft)
     return has_words(text, 1) && add_event(text, draft, PALETTE_KIND_SAVE, operand);
 }
 
+static bool add_load(const struct text *text, struct draft *draft)
+{
+    uint8_t operand[PALETTE_OPERAND_BYTES];
+    return operand_bytes(text, &load_fields, operand) &&
+           add_event(text, draft, PALETTE_KIND_LOAD, operand);
+}
+
 static bool (*const adders[KINDS])(const struct text *text, struct draft *draft) = {
     [PALETTE_KIND_WRITE] = add_write,
     [PALETTE_KIND_READ] = add_read,
     [PALETTE_KIND_TICK] = add_tick,
     [PALETTE_KIND_VERTICAL] = add_verticals,
     [PALETTE_KIND_SAVE] = add_save,
+    [PALETTE_KIND_LOAD] = add_load,
 };
 
 /* --- the text -------------------------------------------------------------- */
@@ -183,17 +192,21 @@ const struct subcommand assemble_subcommand = {
             "chip or an event; # starts a comment. Numbers are decimal, or hexadecimal with an\n"
             "h behind them.\n"
             "\n"
-            "  chip 1                                   chip 2\n"
-            "  write SELECTOR BYTE                      write SELECTOR BYTE\n"
-            "  read SELECTOR                            read SELECTOR\n"
-            "  tick A B C D E ol0 N ol1 N levels N      tick PIXEL levels N\n"
-            "  vertical [HOW MANY]                      vertical [HOW MANY]\n"
-            "  save                                     save\n"
+            "  chip N                                   1, 2 or 3\n"
+            "  write SELECTOR BYTE\n"
+            "  read SELECTOR\n"
+            "  tick A B C D E ol0 N ol1 N levels N      on chip 1\n"
+            "  tick PIXEL levels N                      on chip 2\n"
+            "  tick DA DB levels N                      on chip 3\n"
+            "  vertical [HOW MANY]\n"
+            "  save\n"
+            "  load DA DB\n"
             "\n"
             "SELECTOR is a number or a name, on chip 1 address, palette, control or overlay,\n"
             "on chip 2 address, colour, mask or read-address. ol0 and ol1 have pixel A in\n"
             "bit 0 up to E in bit 4; levels has BLK in bit 0 and SYNC in bit 1, on chip 2\n"
-            "BLANK in bit 0.\n"
+            "BLANK in bit 0, on chip 3 DATEN in bit 0. An event that the chip doesn't have may\n"
+            "stand in a log, too: palette run says that the chip refuses it.\n"
             "\n"
             "  --log FILE   write the log to a file, whole or not at all\n",
     .takes = {[OPTION_LOG] = true},

@@ -5,7 +5,7 @@
 
 #include "files.h"
 
-static const struct chip *const chips[] = {&tlc34058, &hd153129};
+static const struct chip *const chips[] = {&tlc34058, &hd153129, &tms34070};
 enum { CHIPS = sizeof chips / sizeof chips[0] };
 
 const char *const kind_words[KINDS] = {
@@ -14,7 +14,14 @@ const char *const kind_words[KINDS] = {
     [PALETTE_KIND_TICK] = "tick",
     [PALETTE_KIND_VERTICAL] = "vertical",
     [PALETTE_KIND_SAVE] = "save",
+    [PALETTE_KIND_LOAD] = "load",
 };
+
+static const struct field data[] = {{NULL, 0}, {NULL, 1}};
+const struct fields load_fields = {data, sizeof data / sizeof data[0]};
+
+const struct place colour_places[COMPONENTS] = {{"red", false}, {"green", false}, {"blue", false}};
+const char colours_listed[] = "colours that aren't black";
 
 const struct chip *accepted_chip(uint8_t number)
 {
@@ -26,20 +33,34 @@ const struct chip *accepted_chip(uint8_t number)
     return NULL;
 }
 
+size_t places_of_entries(const struct chip *chip)
+{
+    return chip->entry_places * chip->entries;
+}
+
 size_t places_of(const struct chip *chip)
 {
-    return COMPONENTS * chip->entries + chip->rest_count;
+    return places_of_entries(chip) + chip->rest_count;
+}
+
+static const struct place *place_at(const struct chip *chip, size_t place)
+{
+    size_t behind = places_of_entries(chip);
+    return place < behind ? &chip->entry[place % chip->entry_places] : &chip->rest[place - behind];
+}
+
+bool is_count(const struct chip *chip, size_t place)
+{
+    return place_at(chip, place)->is_count;
 }
 
 void name_place(const struct chip *chip, size_t place, char *name)
 {
-    static const char *const components[COMPONENTS] = {"red", "green", "blue"};
-    size_t colours = COMPONENTS * chip->entries;
-    if (place >= colours) {
-        snprintf(name, NAME_ROOM, "%s", chip->rest[place - colours].name);
-        return;
+    size_t len = 0;
+    if (place < places_of_entries(chip)) {
+        chip->name_entry(place / chip->entry_places, name);
+        len = strlen(name);
+        name[len++] = ' ';
     }
-    chip->name_entry(place / COMPONENTS, name);
-    size_t len = strlen(name);
-    snprintf(name + len, NAME_ROOM - len, " %s", components[place % COMPONENTS]);
+    snprintf(name + len, NAME_ROOM - len, "%s", place_at(chip, place)->name);
 }

@@ -10,15 +10,21 @@
 
 #include "palette.h"
 
-enum { COMPONENTS = 3, SELECTORS = 4, KINDS = PALETTE_KIND_SAVE + 1, NAME_ROOM = 32 };
+enum { COMPONENTS = 3, KINDS = PALETTE_KIND_LOAD + 1, NAME_ROOM = 32 };
 
-/* An operand byte of a tick in a log's text, and the word before it, if any. */
+/* An operand byte in a log's text, and the word before it, if any. */
 struct field {
     const char *word;
     unsigned byte;
 };
 
-/* A place behind the colours. */
+/* The operand bytes of an event, in the order in which its line has them. */
+struct fields {
+    const struct field *list;
+    size_t count;
+};
+
+/* A place behind the entries, or one of those that each entry has. */
 struct place {
     const char *name;
     bool is_count; /* printed in decimal, not as a byte */
@@ -28,28 +34,44 @@ struct chip {
     uint8_t number;
     const char *name;
     unsigned colour_bits; /* 4 to 8 */
-    size_t entries;       /* each has the next three places */
+    size_t entries;
+    const struct place *entry; /* each entry's places: the components of its colour */
+    size_t entry_places;       /* come first, then its attributes */
     void (*name_entry)(size_t entry, char *name);
+    const char *listed;       /* what the entries are that aren't all 0 */
     const struct place *rest; /* the places behind the entries */
     size_t rest_count;
     void (*print_rest)(const struct chip *chip, const uint8_t *places);
-    const char *selectors[SELECTORS];
-    const struct field *tick;
-    size_t tick_fields;
+    const char *const *selectors; /* the names of the first ones */
+    size_t selector_count;
+    struct fields tick;
+    const char *pixel_bit; /* what a tick's answer has for each pixel beside its colour */
 };
 
 /* A file each. */
-extern const struct chip tlc34058, hd153129;
+extern const struct chip tlc34058, hd153129, tms34070;
+
+/* The places of an entry that is a colour alone, and what such entries are if
+ * they aren't all 0. */
+extern const struct place colour_places[COMPONENTS];
+extern const char colours_listed[];
 
 /* The words for the kinds of events. */
 extern const char *const kind_words[KINDS];
+
+/* A load has the same operand bytes in any chip's log. */
+extern const struct fields load_fields;
 
 /* The chip of a number that the library has accepted; NULL if the tool doesn't
  * know it, and says so. */
 const struct chip *accepted_chip(uint8_t number);
 
-/* How many places a chip has. */
+/* How many places a chip has, and how many of them, the first, are entries'. */
 size_t places_of(const struct chip *chip);
+size_t places_of_entries(const struct chip *chip);
+
+/* Whether a place's value is printed in decimal. */
+bool is_count(const struct chip *chip, size_t place);
 
 /* A name of at most NAME_ROOM bytes with the one that ends it. */
 void name_place(const struct chip *chip, size_t place, char *name);

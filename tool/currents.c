@@ -20,7 +20,7 @@ static bool read_tick(const char *word, const struct chip *chip, uint8_t *operan
         return fault(&text, "it has more than one line");
     if (text.words == 0 || strcmp(text.word[0], kind_words[PALETTE_KIND_TICK]) != 0)
         return fault(&text, "it doesn't start with the word tick");
-    return tick(&text, chip, operand);
+    return operand_bytes(&text, &chip->tick, operand);
 }
 
 static void print_current(const char *name, unsigned hundredths)

@@ -12,9 +12,9 @@ static void print_difference(const struct state *old, const struct state *new, s
     print_value(old->chip, place, old->places[place]);
     print(" ->");
     print_value(old->chip, place, new->places[place]);
-    if (place < COMPONENTS * old->chip->entries) {
-        print_cell(old->chip, entry_of(old, place / COMPONENTS));
-        print_cell(old->chip, entry_of(new, place / COMPONENTS));
+    if (place < places_of_entries(old->chip)) {
+        print_cell(old->chip, entry_of(old, place / old->chip->entry_places));
+        print_cell(old->chip, entry_of(new, place / old->chip->entry_places));
     }
     print("\n");
 }

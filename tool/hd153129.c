@@ -29,6 +29,8 @@ static const struct place rest[PLACES - ADDRESS] = {
     [PIXEL_MASK - ADDRESS] = {"pixel mask register", false},
 };
 
+static const char *const selectors[] = {"address", "colour", "mask", "read-address"};
+
 static const struct field tick[] = {{NULL, 0}, {"levels", 7}};
 
 static void name_entry(size_t entry, char *name)
@@ -56,11 +58,14 @@ const struct chip hd153129 = {
     .name = "HD153129",
     .colour_bits = 6,
     .entries = ENTRIES,
+    .entry = colour_places,
+    .entry_places = COMPONENTS,
     .name_entry = name_entry,
+    .listed = colours_listed,
     .rest = rest,
     .rest_count = PLACES - ADDRESS,
     .print_rest = print_rest,
-    .selectors = {"address", "colour", "mask", "read-address"},
-    .tick = tick,
-    .tick_fields = sizeof tick / sizeof tick[0],
+    .selectors = selectors,
+    .selector_count = sizeof selectors / sizeof selectors[0],
+    .tick = {tick, sizeof tick / sizeof tick[0]},
 };

@@ -82,6 +82,11 @@ const uint8_t *pixel_of(const uint8_t *answer, size_t pixel)
     return answer + 3 + COMPONENTS * pixel;
 }
 
+unsigned pixel_bit_of(const uint8_t *answer, size_t pixel)
+{
+    return answer[2] >> (1 + pixel) & 1u;
+}
+
 size_t event_count(const struct log *log)
 {
     return (log->len - PALETTE_LOG_HEADER_BYTES) / PALETTE_EVENT_BYTES;
@@ -129,5 +134,5 @@ int read_state(const char *path, struct state *state)
 
 const uint8_t *entry_of(const struct state *state, size_t entry)
 {
-    return state->places + COMPONENTS * entry;
+    return state->places + state->chip->entry_places * entry;
 }

@@ -51,9 +51,11 @@ unsigned tick_currents(const struct snapshot *snapshot, const uint8_t *operand, 
 unsigned currents_refusal(const struct snapshot *snapshot);
 
 /* Of a tick's answer: byte 1 the pixel count, byte 2 the levels, then each pixel's
- * codes. */
+ * codes. Where pixels have a bit beside their colour, the first one's is bit 1 of
+ * byte 2. */
 size_t pixel_count(const uint8_t *answer);
 const uint8_t *pixel_of(const uint8_t *answer, size_t pixel);
+unsigned pixel_bit_of(const uint8_t *answer, size_t pixel);
 
 /* Of an accepted log. */
 size_t event_count(const struct log *log);
@@ -70,7 +72,7 @@ struct state {
  * status, and has said what is wrong. */
 int read_state(const char *path, struct state *state);
 
-/* An entry's three codes. */
+/* An entry's places: the three codes of its colour, then its attributes. */
 const uint8_t *entry_of(const struct state *state, size_t entry);
 
 #endif

@@ -7,18 +7,18 @@
 
 static void print_selector(const struct chip *chip, uint8_t selector)
 {
-    if (selector < SELECTORS)
+    if (selector < chip->selector_count)
         print(" %s", chip->selectors[selector]);
     else
         print(" %u", selector);
 }
 
-static void print_tick(const struct chip *chip, const uint8_t *operand)
+static void print_fields(const struct fields *fields, const uint8_t *operand)
 {
-    for (size_t i = 0; i < chip->tick_fields; i++) {
-        if (chip->tick[i].word != NULL)
-            print(" %s", chip->tick[i].word);
-        print(" %02Xh", operand[chip->tick[i].byte]);
+    for (size_t i = 0; i < fields->count; i++) {
+        if (fields->list[i].word != NULL)
+            print(" %s", fields->list[i].word);
+        print(" %02Xh", operand[fields->list[i].byte]);
     }
 }
 
@@ -37,13 +37,16 @@ static void print_event(const struct chip *chip, uint8_t kind, const uint8_t *op
         print_selector(chip, operand[0]);
         break;
     case PALETTE_KIND_TICK:
-        print_tick(chip, operand);
+        print_fields(&chip->tick, operand);
         break;
     case PALETTE_KIND_VERTICAL:
         if (times > 1)
             print(" %zu", times);
         break;
     case PALETTE_KIND_SAVE:
+        break;
+    case PALETTE_KIND_LOAD:
+        print_fields(&load_fields, operand);
         break;
     }
 }

@@ -86,9 +86,7 @@ void print_name(const char *name)
 
 void print_value(const struct chip *chip, size_t place, uint8_t value)
 {
-    size_t colours = COMPONENTS * chip->entries;
-    bool is_count = place >= colours && chip->rest[place - colours].is_count;
-    print(is_count ? " %u" : " %02Xh", value);
+    print(is_count(chip, place) ? " %u" : " %02Xh", value);
 }
 
 void print_place(const struct chip *chip, const uint8_t *places, size_t place,

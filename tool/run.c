@@ -28,12 +28,21 @@ static bool is_shown_tick(const struct played *played, size_t event)
            answer_to(played, event)[0] == PALETTE_ACCEPTED;
 }
 
+static void print_pixel_bits(const struct chip *chip, const uint8_t *answer)
+{
+    print(", %s", chip->pixel_bit);
+    for (size_t pixel = 0; pixel < pixel_count(answer); pixel++)
+        print(" %u", pixel_bit_of(answer, pixel));
+}
+
 static void print_tick(const struct played *played, size_t event)
 {
     const uint8_t *answer = answer_to(played, event);
     print("event %zu, tick%s:", event, (answer[2] & 1) != 0 ? "" : ", blanked");
     for (size_t pixel = 0; pixel < pixel_count(answer); pixel++)
         print_colour(played->chip, pixel_of(answer, pixel));
+    if (played->chip->pixel_bit != NULL)
+        print_pixel_bits(played->chip, answer);
     print("\n");
 }
 
@@ -156,7 +165,8 @@ const struct subcommand run_subcommand = {
     .name = "run",
     .synopsis = "[--end FILE] [--ppm FILE] SNAPSHOT LOG",
     .help = "Plays a log from a snapshot. Prints each tick's pixels as colours #rrggbb, in\n"
-            "the chip's own codes, and each event that the chip refuses.\n"
+            "the chip's own codes, of a TMS34070 also their EXT bits, and each event that the\n"
+            "chip refuses.\n"
             "\n"
             "SNAPSHOT may be fresh: the fresh chip that the log names, or a fresh chip 1\n"
             "where it names none.\n"

@@ -12,26 +12,40 @@
 /* A swatch has so many entries in a row, each a square of so many pixels. */
 enum { SWATCH_COLUMNS = 16, SWATCH_SIDE = 16 };
 
-static bool is_black(const uint8_t *codes)
+/* Whether an entry has a line: its attributes count, too, if it has any. */
+static bool is_listed(const struct state *state, size_t entry)
 {
-    return codes[0] == 0 && codes[1] == 0 && codes[2] == 0;
+    const uint8_t *values = entry_of(state, entry);
+    for (size_t i = 0; i < state->chip->entry_places; i++) {
+        if (values[i] != 0)
+            return true;
+    }
+    return false;
+}
+
+static void print_entry(const struct state *state, size_t entry)
+{
+    const struct chip *chip = state->chip;
+    const uint8_t *values = entry_of(state, entry);
+    char name[NAME_ROOM], line[NAME_ROOM + 2];
+    chip->name_entry(entry, name);
+    snprintf(line, sizeof line, "  %s", name);
+    print_name(line);
+    print_colour(chip, values);
+    for (size_t i = COMPONENTS; i < chip->entry_places; i++)
+        print(", %s %u", chip->entry[i].name, values[i]);
+    print("\n");
 }
 
 static void print_entries(const struct state *state)
 {
-    size_t entries = state->chip->entries, coloured = 0;
-    char name[NAME_ROOM], line[NAME_ROOM + 2];
+    size_t entries = state->chip->entries, listed = 0;
     for (size_t entry = 0; entry < entries; entry++)
-        coloured += !is_black(entry_of(state, entry));
-    print("colours that aren't black: %zu of %zu\n", coloured, entries);
+        listed += is_listed(state, entry);
+    print("%s: %zu of %zu\n", state->chip->listed, listed, entries);
     for (size_t entry = 0; entry < entries; entry++) {
-        if (is_black(entry_of(state, entry)))
-            continue;
-        state->chip->name_entry(entry, name);
-        snprintf(line, sizeof line, "  %s", name);
-        print_name(line);
-        print_colour(state->chip, entry_of(state, entry));
-        print("\n");
+        if (is_listed(state, entry))
+            print_entry(state, entry);
     }
 }
 
@@ -77,9 +91,11 @@ const struct subcommand show_subcommand = {
     .name = "show",
     .synopsis = "[--ppm FILE] SNAPSHOT",
     .help = "Prints what a chip holds: address and position, held bytes, registers with their\n"
-            "bits in words, and the colours that aren't black, in the chip's own codes.\n"
+            "bits in words, and the colours that aren't black, in the chip's own codes. Of a\n"
+            "TMS34070: load position, held values, the colour before, and the registers that\n"
+            "aren't 0, with EXT and REP.\n"
             "\n"
-            "  --ppm FILE   write a swatch of all entries, 16 to a row\n",
+            "  --ppm FILE   write a swatch of all colours, 16 to a row\n",
     .takes = {[OPTION_PPM] = true},
     .operands = 1,
     .files = 1,

@@ -136,9 +136,9 @@ bool selector(const struct text *text, const struct chip *chip, const char *word
               uint8_t *value)
 {
     unsigned base;
-    for (uint8_t i = 0; i < SELECTORS; i++) {
+    for (size_t i = 0; i < chip->selector_count; i++) {
         if (strcmp(chip->selectors[i], word) == 0) {
-            *value = i;
+            *value = (uint8_t)i;
             return true;
         }
     }
@@ -147,23 +147,23 @@ bool selector(const struct text *text, const struct chip *chip, const char *word
     return byte(text, word, value);
 }
 
-/* How many words a chip's tick has, its first one too. */
-static size_t tick_words(const struct chip *chip)
+/* How many words an event's line has, its first one too. */
+static size_t words_of(const struct fields *fields)
 {
     size_t words = 1;
-    for (size_t i = 0; i < chip->tick_fields; i++)
-        words += chip->tick[i].word != NULL ? 2 : 1;
+    for (size_t i = 0; i < fields->count; i++)
+        words += fields->list[i].word != NULL ? 2 : 1;
     return words;
 }
 
-bool tick(const struct text *text, const struct chip *chip, uint8_t *operand)
+bool operand_bytes(const struct text *text, const struct fields *fields, uint8_t *operand)
 {
     size_t next = 1;
     memset(operand, 0, PALETTE_OPERAND_BYTES);
-    if (!has_words(text, tick_words(chip)))
+    if (!has_words(text, words_of(fields)))
         return false;
-    for (size_t i = 0; i < chip->tick_fields; i++) {
-        const struct field *field = &chip->tick[i];
+    for (size_t i = 0; i < fields->count; i++) {
+        const struct field *field = &fields->list[i];
         if (field->word != NULL && strcmp(text->word[next], field->word) != 0) {
             char what[32];
             snprintf(what, sizeof what, "expected %s, found", field->word);

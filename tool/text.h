@@ -45,7 +45,7 @@ bool byte(const struct text *text, const char *word, uint8_t *value);
 bool selector(const struct text *text, const struct chip *chip, const char *word,
               uint8_t *value);
 
-/* The operand of a chip's tick, from the words behind the line's first one. */
-bool tick(const struct text *text, const struct chip *chip, uint8_t *operand);
+/* An event's operand, from the words behind the line's first one. */
+bool operand_bytes(const struct text *text, const struct fields *fields, uint8_t *operand);
 
 #endif

@@ -33,6 +33,8 @@ static const struct place rest[PLACES - ADDRESS] = {
     [BLINK_COUNT - ADDRESS] = {"blink count", true},
 };
 
+static const char *const selectors[] = {"address", "palette", "control", "overlay"};
+
 static const struct field tick[] = {
     {NULL, 0}, {NULL, 1}, {NULL, 2}, {NULL, 3}, {NULL, 4}, {"ol0", 5}, {"ol1", 6}, {"levels", 7},
 };
@@ -102,11 +104,14 @@ const struct chip tlc34058 = {
     .name = "TLC34058",
     .colour_bits = 8,
     .entries = ENTRIES,
+    .entry = colour_places,
+    .entry_places = COMPONENTS,
     .name_entry = name_entry,
+    .listed = colours_listed,
     .rest = rest,
     .rest_count = PLACES - ADDRESS,
     .print_rest = print_rest,
-    .selectors = {"address", "palette", "control", "overlay"},
-    .tick = tick,
-    .tick_fields = sizeof tick / sizeof tick[0],
+    .selectors = selectors,
+    .selector_count = sizeof selectors / sizeof selectors[0],
+    .tick = {tick, sizeof tick / sizeof tick[0]},
 };

@@ -35,8 +35,8 @@ struct chip {
     const char *name;
     unsigned colour_bits; /* 4 to 8 */
     size_t entries;
-    const struct place *entry; /* each entry's places: the components of its colour */
-    size_t entry_places;       /* come first, then its attributes */
+    const struct place *entry; /* the places of each: its colour, then its attributes */
+    size_t entry_places;
     void (*name_entry)(size_t entry, char *name);
     const char *listed;       /* what the entries are that aren't all 0 */
     const struct place *rest; /* the places behind the entries */
@@ -45,7 +45,7 @@ struct chip {
     const char *const *selectors; /* the names of the first ones */
     size_t selector_count;
     struct fields tick;
-    const char *pixel_bit; /* what a tick's answer has for each pixel beside its colour */
+    const char *pixel_bit; /* what each pixel has beside its colour, or NULL */
 };
 
 /* A file each. */

@@ -45,7 +45,9 @@ struct chip {
     void (*make_registers)(uint8_t *places);
     void (*make_tick)(uint8_t *operand);
     bool has_low_addresses; /* registers and overlays at addresses 0 to 7 */
-    bool has_vertical_periods;
+    /* What nearly all events of each kind in a mix become: the kind itself, or
+     * another if the chip refuses it. */
+    unsigned becomes[PALETTE_KIND_SAVE + 1];
 };
 
 struct input {
@@ -91,6 +93,22 @@ static void make_hd153129_registers(uint8_t *places)
     places[773] = 255;
 }
 
+/* All its places: registers, load position, held values and colour before. */
+static void make_tms34070_registers(uint8_t *places)
+{
+    for (unsigned place = 0; place < 80; place += 5) {
+        for (unsigned component = 0; component < 3; component++)
+            places[place + component] = (uint8_t)below(16);
+        places[place + 3] = below(4) == 0;
+        places[place + 4] = below(4) == 0;
+    }
+    places[80] = (uint8_t)below(32);
+    places[81] = (uint8_t)below(16);
+    places[82] = (uint8_t)below(4);
+    for (unsigned place = 83; place < 86; place++)
+        places[place] = (uint8_t)below(16);
+}
+
 static void make_tlc34058_tick(uint8_t *operand)
 {
     operand[0] = (uint8_t)below(256);
@@ -108,6 +126,13 @@ static void make_hd153129_tick(uint8_t *operand)
     operand[7] = below(8) != 0;
 }
 
+static void make_tms34070_tick(uint8_t *operand)
+{
+    operand[0] = (uint8_t)below(16);
+    operand[1] = (uint8_t)below(16);
+    operand[7] = below(8) != 0;
+}
+
 static const struct chip chips[] = {
     {
         .number = PALETTE_CHIP_TLC34058,
@@ -117,7 +142,8 @@ static const struct chip chips[] = {
         .make_registers = make_tlc34058_registers,
         .make_tick = make_tlc34058_tick,
         .has_low_addresses = true,
-        .has_vertical_periods = true,
+        .becomes = {PALETTE_KIND_WRITE, PALETTE_KIND_READ, PALETTE_KIND_TICK,
+                    PALETTE_KIND_VERTICAL, PALETTE_KIND_SAVE},
     },
     {
         .number = PALETTE_CHIP_HD153129,
@@ -126,6 +152,16 @@ static const struct chip chips[] = {
         .colour_largest = 63,
         .make_registers = make_hd153129_registers,
         .make_tick = make_hd153129_tick,
+        .becomes = {PALETTE_KIND_WRITE, PALETTE_KIND_READ, PALETTE_KIND_TICK, PALETTE_KIND_TICK,
+                    PALETTE_KIND_SAVE},
+    },
+    {
+        .number = PALETTE_CHIP_TMS34070,
+        .places = PALETTE_TMS34070_PLACES,
+        .make_registers = make_tms34070_registers,
+        .make_tick = make_tms34070_tick,
+        .becomes = {PALETTE_KIND_LOAD, PALETTE_KIND_LOAD, PALETTE_KIND_TICK, PALETTE_KIND_TICK,
+                    PALETTE_KIND_SAVE},
     },
 };
 enum { CHIPS = sizeof chips / sizeof chips[0] };
@@ -176,14 +212,23 @@ static void make_access(const struct chip *chip, bool write, uint8_t *operand)
         operand[1] &= 7;
 }
 
+/* Loads fill one register after the other, EXT and REP set in a quarter of
+ * them; a few are refused. */
+static void make_load(uint8_t *operand)
+{
+    operand[0] = (uint8_t)below(16);
+    operand[1] = (uint8_t)(below(16) & below(16));
+    if (below(100) == 0)
+        operand[0] |= 16;
+}
+
 static unsigned make_kind(const struct mix *mix, const struct chip *chip)
 {
     unsigned chance = below(1000), kind = 0;
     while (chance >= mix->share[kind])
         chance -= mix->share[kind++];
-    /* A chip without vertical periods refuses them: nearly all become ticks. */
-    if (kind == PALETTE_KIND_VERTICAL && !chip->has_vertical_periods && below(50) != 0)
-        kind = PALETTE_KIND_TICK;
+    if (chip->becomes[kind] != kind && below(50) != 0)
+        kind = chip->becomes[kind];
     return kind;
 }
 
@@ -203,6 +248,8 @@ static void make_log(struct input *input, const struct mix *mix, const struct ch
             make_access(chip, kind == PALETTE_KIND_WRITE, operand);
         else if (kind == PALETTE_KIND_TICK)
             chip->make_tick(operand);
+        else if (kind == PALETTE_KIND_LOAD)
+            make_load(operand);
     }
     input->log_len = PALETTE_LOG_BYTES(events);
     input->events = events;
@@ -371,6 +418,7 @@ int main(int argc, char **argv)
         printf("  %-12s %u, %u, %u, %u, %u\n", mixes[i].name, mixes[i].share[PALETTE_KIND_WRITE],
                mixes[i].share[PALETTE_KIND_READ], mixes[i].share[PALETTE_KIND_TICK],
                mixes[i].share[PALETTE_KIND_VERTICAL], mixes[i].share[PALETTE_KIND_SAVE]);
-    printf("On chip 2 nearly all vertical periods are ticks.\n\n");
+    printf("On chips 2 and 3 nearly all vertical periods are ticks, on chip 3 nearly all writes\n"
+           "and reads are loads.\n\n");
     return bench_mixes((unsigned)repeats) && bench_growth((unsigned)repeats) ? 0 : 1;
 }

@@ -1,11 +1,13 @@
 -- The state that the structs of the code stand for.
-use Prim.Native.Nat.{ℕ}
+use Prim.Native.Nat.{ℕ, _≤_, _<_}
 use mathlib.Core.Path.{_≡_}
 use mathlib.Core.List.{List}
 use Rattle.event.specs.Answer.{bytesOf}
 use Rattle.event.specs.Event.{Outcome}
+use Rattle.tms34070.specs.Facts as facts
 use Rattle.tms34070.specs.State.{Colour, State}
 use Rattle.tms34070.specs.Load.{Access, next, reply}
+use Rattle.tms34070.specs.Tick.{extOf, repOf}
 use Rattle.tms34070.specs.declared.Colour as colour
 use Rattle.tms34070.specs.declared.Control as control
 use Rattle.tms34070.specs.declared.Tms34070 as code
@@ -26,6 +28,10 @@ stateOf s = record {
   port = record { values = s .registers; position = s .position; heldRed = s .«held_red»; heldBits = s .«held_bits» };
   before = colourIs (s .before);
 }
+
+-- EXT and REP of every register have one bit
+abbrev pub OneBit : List ℕ → Type 0
+OneBit values = (n : ℕ) → n < facts.registers → (extOf values n ≤ 1) × (repOf values n ≤ 1)
 
 -- what an event called by itself answers and leaves
 pub record OutcomeIs (o : Outcome State) (r : outcome.Outcome) : Type 0 where

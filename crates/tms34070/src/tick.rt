@@ -1,11 +1,13 @@
 // A tick: the codes of two pixels, written straight into the answer's part.
 ghost use mathlib.Core.Path.{_≡_};
-ghost use Prim.Native.Nat.{ℕ, _+_, _*_, _<_, _≤_};
+ghost use mathlib.Core.Bool.{cond};
+ghost use Prim.Native.Nat.{_+_, _*_, _<_, _≤_};
+ghost use lib.Dec.{eqb};
 ghost use lib.ListN.{length};
 ghost use Rattle.event.specs.Answer.{showed, answerLong, bytesOf};
 ghost use Rattle.tms34070.specs.Facts as facts;
 ghost use Rattle.tms34070.specs.Tick.{extOf, shown, codesOf, refusedTick, tick, after};
-ghost use Rattle.tms34070.specs.Struct.{colourIs};
+ghost use Rattle.tms34070.specs.Struct.{colourIs, OneBit};
 use crate::Colour;
 use crate::REGISTER_VALUES;
 use crate::load::over_nibble;
@@ -22,19 +24,26 @@ fn is_refused(operand: [u8; 8]) -> bool
     false
 }
 
+// One of two values: the one before where a register repeats, else its own. No branch, since repeating registers come in no order that a processor could guess.
+fn either(rep: u8, before: u8, own: u8) -> u8
+    requires { ⌜ rep ≤ 1 ⌝ }
+    ensures { λ r. ⌜ r ≡ cond (eqb rep 1) before own ⌝ }
+{
+    let mask = 255 * rep;
+    bytes::masked(before, mask) + bytes::masked(own, 255 - mask)
+}
+
 // A pixel's colour: its register's, or the colour before it where the register's REP is 1.
 fn shown(registers: &[u8], before: Colour, register: u8) -> Colour
-    requires { ⌜ (length (now registers) ≡ facts.values) × (register < facts.registers) ⌝ }
+    requires { ⌜ (length (now registers) ≡ facts.values) × (register < facts.registers) × OneBit (now registers) ⌝ }
     ensures { λ r. ⌜ colourIs r ≡ shown (now (registers .entry)) (colourIs before) register ⌝ }
 {
     let from = REGISTER_VALUES * bytes::wide(register);
-    if registers[from + 4] == 1 {
-        return before;
-    }
+    let rep = registers[from + 4];
     Colour {
-        red: registers[from],
-        green: registers[from + 1],
-        blue: registers[from + 2],
+        red: either(rep, before.red, registers[from]),
+        green: either(rep, before.green, registers[from + 1]),
+        blue: either(rep, before.blue, registers[from + 2]),
     }
 }
 
@@ -48,7 +57,7 @@ fn ext(registers: &[u8], register: u8) -> u8
 
 // DATEN, which is high, and the EXT of both pixels' registers.
 fn levels(registers: &[u8], da: u8, db: u8) -> u8
-    requires { ⌜ (length (now registers) ≡ facts.values) × (da < facts.registers) × (db < facts.registers) × ((n : ℕ) → n < facts.registers → extOf (now registers) n ≤ 1) ⌝ }
+    requires { ⌜ (length (now registers) ≡ facts.values) × (da < facts.registers) × (db < facts.registers) × OneBit (now registers) ⌝ }
     ensures { λ r. ⌜ r ≡ 1 + 2 * extOf (now (registers .entry)) da + 4 * extOf (now (registers .entry)) db ⌝ }
 {
     1 + 2 * ext(registers, da) + 4 * ext(registers, db)
@@ -71,7 +80,7 @@ fn put_pixels(part: &mut [u8], levels: u8, da: Colour, db: Colour)
 
 // A tick's answer over an event's part of the answer buffer; the colour that it leaves as the one before.
 pub fn put_tick(part: &mut [u8], registers: &[u8], before: Colour, operand: [u8; 8]) -> Colour
-    requires { ⌜ (length (now part) ≡ answerLong) × (length (now registers) ≡ facts.values) × ((n : ℕ) → n < facts.registers → extOf (now registers) n ≤ 1) ⌝ }
+    requires { ⌜ (length (now part) ≡ answerLong) × (length (now registers) ≡ facts.values) × OneBit (now registers) ⌝ }
     ensures { λ r. ⌜ (now (part .exit) ≡ bytesOf (tick (now (registers .entry)) (colourIs before) operand)) × (colourIs r ≡ after (now (registers .entry)) (colourIs before) operand) ⌝ }
 {
     if is_refused(operand) {

@@ -54,7 +54,7 @@ shown-requires c κs =
     let if1 = c .before .if1 in
     let pre = c .before .before .before .before .before .pre in
     let n = tick-narrow _ (sym (is-refused .ensures) ∙ if1 .left) in
-    (pre .1, omega (arith, n .0 .0))
+    (pre .1, omega (arith, n .0 .0), pre .2)
 
 array-read-shown-2 : tie.Need-array-read-shown-2
 array-read-shown-2 c = search needs
@@ -65,7 +65,7 @@ shown-requires-2 c κs =
     let if1 = c .before .before .if1 in
     let pre = c .before .before .before .before .before .before .pre in
     let n = tick-narrow _ (sym (is-refused .ensures) ∙ if1 .left) in
-    (pre .1, omega (arith, n .0 .1))
+    (pre .1, omega (arith, n .0 .1), pre .2)
 
 array-read-levels : tie.Need-array-read-levels
 array-read-levels c = search needs

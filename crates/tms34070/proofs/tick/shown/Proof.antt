@@ -1,10 +1,11 @@
 -- `shown` meets its contract.
-use Prim.Native.Nat.{_+_, _*_}
-use mathlib.Core.Path.{sym, _∙_, ap}
-use borrow.Author.Tests.{eq-eqb, ne-eqb}
-use lib.ListN.{getD}
+use mathlib.Core.Bool.{cond}
+use mathlib.Core.Path.{_∙_, ap}
+use lib.Dec.{eqb}
 use denote.Ref.{now}
-use Rattle.tms34070.specs.Tick.{shown, colourOf}
+use Rattle.tms34070.proofs.Shown.{by-component}
+use Rattle.tms34070.specs.Tick.{shown, colourOf, repOf}
+use Rattle.tms34070.specs.Struct.{colourIs}
 use borrow.Author.Needs.{needs}
 use Rattle.tms34070.proofs.tick.shown.Statement.{statement}
 use Rattle.tms34070.proofs.tick.shown.Tie as tie
@@ -15,43 +16,61 @@ wide-requires c κs = search needs
 mul-from : tie.Need-mul-from
 mul-from c = search needs
 
-add-if1 : tie.Need-add-if1
-add-if1 c = search needs
+add-rep : tie.Need-add-rep
+add-rep c = search needs
 
-shared-slice-read-if1 : tie.Need-shared-slice-read-if1
-shared-slice-read-if1 c = search needs
+shared-slice-read-rep : tie.Need-shared-slice-read-rep
+shared-slice-read-rep c = search needs
+
+shared-slice-read-either : tie.Need-shared-slice-read-either
+shared-slice-read-either c = search needs
+
+either-requires : tie.Need-either-requires
+either-requires c κs =
+    let wide = c .before .before .wide in
+    let pre = c .before .before .before .before .pre in
+    let args = c .before .before .before .before .args in
+    rw (wide .ensures .0) (pre .2 (args .register) (pre .1) .1)
+
+add-either : tie.Need-add-either
+add-either c = search needs
+
+shared-slice-read-either-2 : tie.Need-shared-slice-read-either-2
+shared-slice-read-either-2 c = search needs
+
+either-requires-2 : tie.Need-either-requires-2
+either-requires-2 c κs =
+    let wide = c .before .before .before .before .wide in
+    let pre = c .before .before .before .before .before .before .pre in
+    let args = c .before .before .before .before .before .before .args in
+    rw (wide .ensures .0) (pre .2 (args .register) (pre .1) .1)
+
+add-either-2 : tie.Need-add-either-2
+add-either-2 c = search needs
+
+shared-slice-read-either-3 : tie.Need-shared-slice-read-either-3
+shared-slice-read-either-3 c = search needs
+
+either-requires-3 : tie.Need-either-requires-3
+either-requires-3 c κs =
+    let wide = c .before .before .before .before .before .before .wide in
+    let pre = c .before .before .before .before .before .before .before .before .pre in
+    let args = c .before .before .before .before .before .before .before .before .args in
+    rw (wide .ensures .0) (pre .2 (args .register) (pre .1) .1)
 
 returns : tie.Need-returns
 unfolding shown
 returns c =
-    let args = c .before .before .before .before .args in
-    let wide = c .before .before .wide in
-    let if1 = c .if1 in
-    sym (simp (eq-eqb _ _ (sym (ap (λ n. getD (now (args .registers)) (5 * n + 4) 0) (wide .ensures .0)) ∙ if1 .taken)))
-
-shared-slice-read-t7 : tie.Need-shared-slice-read-t7
-shared-slice-read-t7 c = search needs
-
-add-t5 : tie.Need-add-t5
-add-t5 c = search needs
-
-shared-slice-read-t11 : tie.Need-shared-slice-read-t11
-shared-slice-read-t11 c = search needs
-
-add-t12 : tie.Need-add-t12
-add-t12 c = search needs
-
-shared-slice-read-t14 : tie.Need-shared-slice-read-t14
-shared-slice-read-t14 c = search needs
-
-returns-2 : tie.Need-returns-2
-unfolding shown
-returns-2 c =
-    let args = c .before .before .before .before .before .before .before .args in
-    let wide = c .before .before .before .before .before .wide in
-    let if1 = c .before .before .before .if1 in
-    ap (λ n. colourOf (now (args .registers)) n) (wide .ensures .0)
-    ∙ sym (simp (ne-eqb _ _ (λ z. if1 .left (ap (λ n. getD (now (args .registers)) (5 * n + 4) 0) (wide .ensures .0) ∙ z))))
+    let args = c .before .before .before .before .before .before .before .before .before .args in
+    let either = c .before .before .before .before .either in
+    let either2 = c .before .before .either2 in
+    let either3 = c .either3 in
+    let wide = c .before .before .before .before .before .before .before .wide in
+    let l = now (args .registers) in
+    let b = colourIs (args .before) in
+    (λ i. record { red = either .ensures i; green = either2 .ensures i; blue = either3 .ensures i })
+    ∙ by-component (eqb (repOf l (wide .result)) 1) b (colourOf l (wide .result))
+    ∙ ap (λ n. cond (eqb (repOf l n) 1) b (colourOf l n)) (wide .ensures .0)
 
 pub shown-spec : {M : Type 1} → statement M
 shown-spec =
@@ -59,12 +78,14 @@ shown-spec =
     (tie.spec
     wide-requires
     mul-from
-    add-if1
-    shared-slice-read-if1
-    returns
-    shared-slice-read-t7
-    add-t5
-    shared-slice-read-t11
-    add-t12
-    shared-slice-read-t14
-    returns-2)
+    add-rep
+    shared-slice-read-rep
+    shared-slice-read-either
+    either-requires
+    add-either
+    shared-slice-read-either-2
+    either-requires-2
+    add-either-2
+    shared-slice-read-either-3
+    either-requires-3
+    returns)

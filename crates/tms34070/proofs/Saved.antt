@@ -1,6 +1,6 @@
 -- Places of a sound state are valid and the other way round; every restored state is sound; a save leaves a sound state as it was.
 use Prim.Native.Nat.{ℕ, _+_, _≤_}
-use mathlib.Core.Path.{_≡_, refl, sym, _∙_, ap}
+use mathlib.Core.Path.{_≡_, refl, sym, _∙_, ap, subst}
 use mathlib.Core.List.{List, _++_}
 use native.Mathlib.Omega.{arith}
 use lib.ListN.{length, getD, take, replicate, take-append-drop}
@@ -30,7 +30,7 @@ sound s v =
     let r = p .rest-small in
     record { port = record { long = p .long ∙ values-long; small = p .small; position = r 0; heldRed = r 1; heldBits = r 2 }; before = record { red = r 3; green = r 4; blue = r 5 } }
 
-sound-from : (l : List ℕ) → Valid largest l → Sound (stateFrom l)
+pub sound-from : (l : List ℕ) → Valid largest l → Sound (stateFrom l)
 unfolding largest stateFrom
 sound-from l v =
     let p = places-halves largestValues largestRest l values values-long v in
@@ -57,9 +57,13 @@ state-back s v =
     simp (take-at (s .port .values) rest values long, at 0, at 1, at 2, at 3, at 4, at 5)
 
 -- the places of the state of a list of places are those places
-places-back : (l : List ℕ) → length l ≡ length largest → placesOf (stateFrom l) ≡ l
+pub places-back : (l : List ℕ) → length l ≡ length largest → placesOf (stateFrom l) ≡ l
 unfolding placesOf stateFrom
 places-back l h = ap (λ r. take values l ++ r) (sym (drop-list l values (length largestRest) (h ∙ largest-long))) ∙ take-append-drop values l
+
+-- places whose state is sound are valid
+pub valid-places : (l : List ℕ) → length l ≡ places → Sound (stateFrom l) → Valid largest l
+valid-places l h v = subst (Valid largest) (places-back l (h ∙ sym largest-long)) (valid (stateFrom l) v)
 
 fresh-from : stateFrom (replicate (length largest) 0) ≡ fresh
 unfolding stateFrom largest largestValues

@@ -1,15 +1,12 @@
 -- A tick's answer, and the colour that it leaves, case by case.
-use Prim.Native.Nat.{ℕ, zero, suc, _+_, _-_, _*_, _≤_, _<_}
+use Prim.Native.Nat.{ℕ, zero, suc, _+_, _*_, _≤_}
 use mathlib.Core.Path.{_≡_, refl, sym, _∙_, ap}
-use mathlib.Core.Bool.{Bool, true, false, cond, _||_, false≢true}
+use mathlib.Core.Bool.{Bool, true, false, _||_, false≢true}
 use mathlib.Core.List.{List}
-use native.Mathlib.Nat.{zero-add, add-zero, mod-eq-of-lt}
 use native.Mathlib.Omega.{arith}
 use borrow.Author.Tests.{ltb-false}
-use lib.Bits.{bitAnd, and-zero-r, and-mask}
-use lib.Dec.{eqb, ltb}
+use lib.Dec.{ltb}
 use lib.ListN.{getD}
-use Rattle.laws.proofs.Tests.{cond-all}
 use Rattle.event.specs.Answer.{showed, bytesOf, answerOf}
 use Rattle.event.proofs.Laws.{refused-bytes}
 use Rattle.tms34070.specs.State.{Colour, black}
@@ -35,20 +32,6 @@ level-high o r n = go (getD o 7 0) (tick-narrow o r .1) n
     go zero h z = absurd (z refl)
     go (suc zero) h z = refl
     go (suc (suc k)) h z = absurd (omega arith)
-
--- one of two bytes by masks
-pub either : (rep before own : ℕ) → rep ≤ 1 → before < 256 → own < 256 → bitAnd before (255 * rep) + bitAnd own (255 - 255 * rep) ≡ cond (eqb rep 1) before own
-either zero before own h b o = simp (and-zero-r before, and-mask own 8, mod-eq-of-lt o, zero-add)
-either (suc zero) before own h b o = simp (and-zero-r own, and-mask before 8, mod-eq-of-lt b, add-zero)
-either (suc (suc n)) before own h b o = absurd (omega arith)
-
-pub either-small : (rep before own : ℕ) → rep ≤ 1 → before < 256 → own < 256 → bitAnd before (255 * rep) + bitAnd own (255 - 255 * rep) < 256
-either-small rep before own h b o = rw (either rep before own h b o) (cond-all (λ n. n < 256) (eqb rep 1) before own b o)
-
--- a colour is chosen component by component
-pub by-component : (b : Bool) (x y : Colour) → _≡_ {A = Colour} (record { red = cond b (x .red) (y .red); green = cond b (x .green) (y .green); blue = cond b (x .blue) (y .blue) }) (cond b x y)
-by-component true x y = refl
-by-component false x y = refl
 
 module _ (values o : List ℕ) (before : Colour) where
   pub tick-refused : refusedTick o ≡ true → answerOf 4 0 ≡ bytesOf (tick values before o)

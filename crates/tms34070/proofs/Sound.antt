@@ -15,7 +15,6 @@ use Rattle.tms34070.specs.Facts as facts
 use Rattle.tms34070.specs.State.{Colour, black, Port, State}
 use Rattle.tms34070.specs.Load.{Access, refuse, hold, store, overNibble, requestLoad, request, stored, next}
 use Rattle.tms34070.specs.Tick.{daten, colourOf, repOf, shown, first, second, refusedTick, after, beforeNext}
-use Rattle.tms34070.specs.Struct.{OneBit}
 
 pub record SoundPort (p : Port) : Type 0 where
   pub long : length (p .values) ≡ facts.values
@@ -131,9 +130,6 @@ sound-move p e v = next-sound p (request p e) (request-stores p e) v
 
 pub sound-black : SoundColour black
 sound-black = record { red = omega arith; green = omega arith; blue = omega arith }
-
-pub one-bit : (p : Port) → SoundPort p → OneBit (p .values)
-one-bit p v n h = (omega (arith, v .small (5 * n + 3), largest-value n 3 h (omega arith)), omega (arith, v .small (5 * n + 4), largest-value n 4 h (omega arith)))
 
 module _ (p : Port) (v : SoundPort p) where
   sound-colour : (n : ℕ) → n ≤ facts.largestNibble → SoundColour (colourOf (p .values) n)

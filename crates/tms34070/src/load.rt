@@ -1,15 +1,18 @@
 // A load: DA and DB fill a register in two steps.
 ghost use mathlib.Core.Path.{_≡_};
-ghost use mathlib.Core.List.{List};
-ghost use Prim.Native.Nat.{ℕ, _/_, _%_, _<_, _≤_};
-ghost use lib.ListN.{length};
+ghost use Prim.Native.Nat.{_/_, _%_, _<_};
+ghost use lib.ListN.{length, getD};
+ghost use Rattle.snapshot.specs.Snapshot.{Valid};
 ghost use Rattle.event.specs.Answer.{answerLong};
 ghost use Rattle.tms34070.specs.Facts as facts;
 ghost use Rattle.tms34070.specs.Load.{overNibble, requestLoad, onward, stored};
-ghost use Rattle.tms34070.specs.Struct.{joined, Accessed};
-use crate::Control;
+ghost use Rattle.tms34070.specs.Places.{stateFrom, behind};
+ghost use Rattle.tms34070.specs.Struct.{Accessed};
+use crate::HELD_BITS;
+use crate::HELD_RED;
 use crate::LARGEST_NIBBLE;
 use crate::LOADS;
+use crate::POSITION;
 use crate::REGISTER_VALUES;
 
 // DA or DB has more than four bits.
@@ -34,36 +37,37 @@ fn onward(position: u8) -> u8
 }
 
 // A register's five values: those that its first load held, and green and blue.
-fn store(registers: &mut [u8], c: Control, green: u8, blue: u8)
-    requires { ⌜ (length (now registers) ≡ facts.values) × (c .position < facts.loads) ⌝ }
-    ensures { λ _. ⌜ now (registers .exit) ≡ stored (now (registers .entry)) (c .position / 2) (c .«held_red») green blue (c .«held_bits» % 2) (c .«held_bits» / 2) ⌝ }
+fn store(places: &mut [u8], position: u8, green: u8, blue: u8)
+    requires { ⌜ (length (now places) ≡ facts.places) × (position < facts.loads) ⌝ }
+    ensures { λ _. ⌜ now (places .exit) ≡ stored (now (places .entry)) (position / 2) (behind (now (places .entry)) 1) green blue (behind (now (places .entry)) 2 % 2) (behind (now (places .entry)) 2 / 2) ⌝ }
 {
-    let from = REGISTER_VALUES * bytes::wide(c.position / 2);
-    registers[from] = c.held_red;
-    registers[from + 1] = green;
-    registers[from + 2] = blue;
-    registers[from + 3] = c.held_bits % 2;
-    registers[from + 4] = c.held_bits / 2;
+    let red = places[HELD_RED];
+    let bits = places[HELD_BITS];
+    let from = REGISTER_VALUES * bytes::wide(position / 2);
+    places[from] = red;
+    places[from + 1] = green;
+    places[from + 2] = blue;
+    places[from + 3] = bits % 2;
+    places[from + 4] = bits / 2;
 }
 
 // Its answer has its refusal and nothing else.
-pub fn load(registers: &mut [u8], c: Control, da: u8, db: u8, part: &mut [u8]) -> Control
-    requires { ⌜ (length (now registers) ≡ facts.values) × (c .position < facts.loads) × (length (now part) ≡ answerLong) ⌝ }
-    ensures { λ r. ⌜ Accessed (joined (now (registers .entry)) c) (joined (now (registers .exit)) r) (requestLoad (c .position) da db) (now (part .exit)) ⌝ }
+pub fn load(places: &mut [u8], da: u8, db: u8, part: &mut [u8])
+    requires { ⌜ Valid facts.largest (now places) × (length (now part) ≡ answerLong) ⌝ }
+    ensures { λ _. ⌜ Accessed (stateFrom (now (places .entry))) (stateFrom (now (places .exit))) (requestLoad (behind (now (places .entry)) 0) da db) (now (part .exit)) ⌝ }
 {
-    let mut next = c;
     if over_nibble(da, db) {
         event::put_answer(part, 4, 0);
-        return next;
+        return;
     }
     event::put_answer(part, 0, 0);
-    let position = onward(c.position);
-    next.position = position;
-    if c.position % 2 == 0 {
-        next.held_red = da;
-        next.held_bits = db % 4;
-        return next;
+    let position = places[POSITION];
+    if position % 2 == 0 {
+        places[HELD_RED] = da;
+        places[HELD_BITS] = db % 4;
+        places[POSITION] = onward(position);
+        return;
     }
-    store(registers, c, da, db);
-    next
+    store(places, position, da, db);
+    places[POSITION] = onward(position);
 }

@@ -1,13 +1,17 @@
 // A tick: the codes of two pixels, written straight into the answer's part.
 ghost use mathlib.Core.Path.{_≡_};
-ghost use mathlib.Core.Bool.{cond};
+ghost use mathlib.Core.Bool.{false, cond};
 ghost use Prim.Native.Nat.{_+_, _*_, _<_, _≤_};
 ghost use lib.Dec.{eqb};
-ghost use lib.ListN.{length};
+ghost use lib.ListN.{length, getD, set};
+ghost use Rattle.snapshot.specs.Snapshot.{Valid};
 ghost use Rattle.event.specs.Answer.{showed, answerLong, bytesOf};
 ghost use Rattle.tms34070.specs.Facts as facts;
-ghost use Rattle.tms34070.specs.Tick.{extOf, shown, codesOf, refusedTick, tick, after};
-ghost use Rattle.tms34070.specs.Struct.{colourIs, OneBit};
+ghost use Rattle.tms34070.specs.Load.{placeOf};
+ghost use Rattle.tms34070.specs.Tick.{extOf, repOf, codesOf, refusedTick};
+ghost use Rattle.tms34070.specs.Places.{stateFrom};
+ghost use Rattle.tms34070.specs.Struct.{colourIs, colourAt, OneBit, Ticked};
+use crate::BEFORE;
 use crate::Colour;
 use crate::REGISTER_VALUES;
 use crate::load::over_nibble;
@@ -24,43 +28,42 @@ fn is_refused(operand: [u8; 8]) -> bool
     false
 }
 
-// One of two values: the one before where a register repeats, else its own. No branch, since repeating registers come in no order that a processor could guess.
-fn either(rep: u8, before: u8, own: u8) -> u8
-    requires { ⌜ rep ≤ 1 ⌝ }
-    ensures { λ r. ⌜ r ≡ cond (eqb rep 1) before own ⌝ }
+// Where a pixel's colour stands: in its register, or where the colour before it stands, if the register's REP is 1. No branch, since repeating registers come in no order that a processor could guess.
+fn source(places: &[u8], register: u8, before: usize) -> usize
+    requires { ⌜ (length (now places) ≡ facts.places) × (register < facts.registers) × OneBit (now places) × (before < facts.places) ⌝ }
+    ensures { λ r. ⌜ r ≡ cond (eqb (repOf (now (places .entry)) register) 1) before (placeOf register) ⌝ }
 {
-    let mask = 255 * rep;
-    bytes::masked(before, mask) + bytes::masked(own, 255 - mask)
+    let own = REGISTER_VALUES * bytes::wide(register);
+    let rep = bytes::wide(places[own + 4]);
+    rep * before + (1 - rep) * own
 }
 
-// A pixel's colour: its register's, or the colour before it where the register's REP is 1.
-fn shown(registers: &[u8], before: Colour, register: u8) -> Colour
-    requires { ⌜ (length (now registers) ≡ facts.values) × (register < facts.registers) × OneBit (now registers) ⌝ }
-    ensures { λ r. ⌜ colourIs r ≡ shown (now (registers .entry)) (colourIs before) register ⌝ }
+// The colour whose red stands there.
+fn colour_at(places: &[u8], at: usize) -> Colour
+    requires { ⌜ (length (now places) ≡ facts.places) × (at + 2 < facts.places) ⌝ }
+    ensures { λ r. ⌜ colourIs r ≡ colourAt (now (places .entry)) at ⌝ }
 {
-    let from = REGISTER_VALUES * bytes::wide(register);
-    let rep = registers[from + 4];
     Colour {
-        red: either(rep, before.red, registers[from]),
-        green: either(rep, before.green, registers[from + 1]),
-        blue: either(rep, before.blue, registers[from + 2]),
+        red: places[at],
+        green: places[at + 1],
+        blue: places[at + 2],
     }
 }
 
-fn ext(registers: &[u8], register: u8) -> u8
-    requires { ⌜ (length (now registers) ≡ facts.values) × (register < facts.registers) ⌝ }
-    ensures { λ r. ⌜ r ≡ extOf (now (registers .entry)) register ⌝ }
+fn ext(places: &[u8], register: u8) -> u8
+    requires { ⌜ (length (now places) ≡ facts.places) × (register < facts.registers) ⌝ }
+    ensures { λ r. ⌜ r ≡ extOf (now (places .entry)) register ⌝ }
 {
     let from = REGISTER_VALUES * bytes::wide(register);
-    registers[from + 3]
+    places[from + 3]
 }
 
 // DATEN, which is high, and the EXT of both pixels' registers.
-fn levels(registers: &[u8], da: u8, db: u8) -> u8
-    requires { ⌜ (length (now registers) ≡ facts.values) × (da < facts.registers) × (db < facts.registers) × OneBit (now registers) ⌝ }
-    ensures { λ r. ⌜ r ≡ 1 + 2 * extOf (now (registers .entry)) da + 4 * extOf (now (registers .entry)) db ⌝ }
+fn levels(places: &[u8], da: u8, db: u8) -> u8
+    requires { ⌜ (length (now places) ≡ facts.places) × (da < facts.registers) × (db < facts.registers) × OneBit (now places) ⌝ }
+    ensures { λ r. ⌜ r ≡ 1 + 2 * extOf (now (places .entry)) da + 4 * extOf (now (places .entry)) db ⌝ }
 {
-    1 + 2 * ext(registers, da) + 4 * ext(registers, db)
+    1 + 2 * ext(places, da) + 4 * ext(places, db)
 }
 
 // The answer of a tick that shows two pixels.
@@ -78,25 +81,47 @@ fn put_pixels(part: &mut [u8], levels: u8, da: Colour, db: Colour)
     part[8] = db.blue;
 }
 
-// A tick's answer over an event's part of the answer buffer; the colour that it leaves as the one before.
-pub fn put_tick(part: &mut [u8], registers: &[u8], before: Colour, operand: [u8; 8]) -> Colour
-    requires { ⌜ (length (now part) ≡ answerLong) × (length (now registers) ≡ facts.values) × OneBit (now registers) ⌝ }
-    ensures { λ r. ⌜ (now (part .exit) ≡ bytesOf (tick (now (registers .entry)) (colourIs before) operand)) × (colourIs r ≡ after (now (registers .entry)) (colourIs before) operand) ⌝ }
+// The colour before, from now on.
+fn keep(places: &mut [u8], c: Colour)
+    requires { ⌜ length (now places) ≡ facts.places ⌝ }
+    ensures { λ _. ⌜ now (places .exit) ≡ set (set (set (now (places .entry)) (facts.values + 3) (c .red)) (facts.values + 4) (c .green)) (facts.values + 5) (c .blue) ⌝ }
+{
+    places[BEFORE] = c.red;
+    places[BEFORE + 1] = c.green;
+    places[BEFORE + 2] = c.blue;
+}
+
+// A tick with DATEN high: its answer, and DB's colour becomes the one before.
+fn put_lit(places: &mut [u8], operand: [u8; 8], part: &mut [u8])
+    requires { ⌜ Valid facts.largest (now places) × (refusedTick operand ≡ false) × (getD operand 7 0 ≡ 1) × (length (now part) ≡ answerLong) ⌝ }
+    ensures { λ _. ⌜ Ticked (now (places .entry)) (now (places .exit)) operand (now (part .exit)) ⌝ }
+{
+    let a = source(places, operand[0], BEFORE);
+    let b = source(places, operand[1], a);
+    let da = colour_at(places, a);
+    let db = colour_at(places, b);
+    put_pixels(part, levels(places, operand[0], operand[1]), da, db);
+    keep(places, db);
+}
+
+// A tick's answer over an event's part of the answer buffer, and the colour that it leaves as the one before.
+pub fn put_tick(places: &mut [u8], operand: [u8; 8], part: &mut [u8])
+    requires { ⌜ Valid facts.largest (now places) × (length (now part) ≡ answerLong) ⌝ }
+    ensures { λ _. ⌜ Ticked (now (places .entry)) (now (places .exit)) operand (now (part .exit)) ⌝ }
 {
     if is_refused(operand) {
         event::put_answer(part, 4, 0);
-        return before;
+        return;
     }
     if operand[7] == 0 {
         event::put_answer(part, 0, 2);
-        return Colour {
+        let black = Colour {
             red: 0,
             green: 0,
             blue: 0,
         };
+        keep(places, black);
+        return;
     }
-    let da = shown(registers, before, operand[0]);
-    let db = shown(registers, da, operand[1]);
-    put_pixels(part, levels(registers, operand[0], operand[1]), da, db);
-    db
+    put_lit(places, operand, part);
 }

@@ -1,9 +1,11 @@
 -- `put_tick` meets its contract.
-use mathlib.Core.Path.{sym, _∙_}
-use native.Mathlib.Omega.{arith}
+use mathlib.Core.Path.{sym, _∙_, ap}
 use denote.Ref.{now}
-use Rattle.tms34070.proofs.Shown.{level-high, tick-narrow, tick-refused, after-refused, tick-dark, after-dark, tick-lit, after-lit}
-use Rattle.tms34070.specs.Struct.{colourIs}
+use Rattle.tms34070.proofs.Stores.{kept-state}
+use Rattle.tms34070.proofs.Shown.{level-high, tick-refused, after-refused, tick-dark, after-dark}
+use Rattle.tms34070.proofs.Saved.{largest-long}
+use Rattle.tms34070.specs.Places.{stateFrom}
+use Rattle.tms34070.specs.State.{black}
 use borrow.Author.Needs.{needs}
 use Rattle.tms34070.proofs.tick.put_tick.Statement.{statement}
 use Rattle.tms34070.proofs.tick.put_tick.Tie as tie
@@ -21,10 +23,11 @@ returns : tie.Need-returns
 returns c =
     let is-refused = c .before .before .before .before .before .is-refused in
     let if1 = c .before .before .before .before .if1 in
-    let put-answer = c .before .before .put-answer in
     let args = c .before .before .before .before .before .before .before .before .args in
+    let put-answer = c .before .before .put-answer in
     let r = sym (is-refused .ensures) ∙ if1 .taken in
-    (put-answer .ensures ∙ tick-refused (now (args .registers)) _ (colourIs (args .before)) r, after-refused (now (args .registers)) _ (colourIs (args .before)) r)
+    let s = stateFrom (now (args .places)) in
+    record { state = λ i. record { port = s .port; before = after-refused (s .port .values) _ (s .before) r i }; answer = put-answer .ensures ∙ tick-refused (s .port .values) _ (s .before) r }
 
 array-read-if2 : tie.Need-array-read-if2
 array-read-if2 c = search needs
@@ -32,71 +35,51 @@ array-read-if2 c = search needs
 put-answer-requires-2 : tie.Need-put-answer-requires-2
 put-answer-requires-2 c κs = search needs
 
+keep-requires : tie.Need-keep-requires
+keep-requires c κs =
+    let pre = c .before .before .before .before .before .before .before .before .before .before .pre in
+    pre .0 .long ∙ largest-long
+
 same-length-2 : tie.Need-same-length-2
 same-length-2 c = search needs
-
-returns-2 : tie.Need-returns-2
-returns-2 c =
-    let is-refused = c .before .before .before .before .before .before .is-refused in
-    let if1 = c .before .before .before .before .before .if1 in
-    let put-answer2 = c .before .before .put-answer2 in
-    let args = c .before .before .before .before .before .before .before .before .before .args in
-    let if2 = c .before .before .before .before .if2 in
-    let r = sym (is-refused .ensures) ∙ if1 .left in
-    (put-answer2 .ensures ∙ tick-dark (now (args .registers)) _ (colourIs (args .before)) r (if2 .taken), after-dark (now (args .registers)) _ (colourIs (args .before)) r (if2 .taken))
-
-array-read-shown : tie.Need-array-read-shown
-array-read-shown c = search needs
-
-shown-requires : tie.Need-shown-requires
-shown-requires c κs =
-    let is-refused = c .before .before .is-refused in
-    let if1 = c .before .if1 in
-    let pre = c .before .before .before .before .before .pre in
-    let n = tick-narrow _ (sym (is-refused .ensures) ∙ if1 .left) in
-    (pre .1, omega (arith, n .0 .0), pre .2)
-
-array-read-shown-2 : tie.Need-array-read-shown-2
-array-read-shown-2 c = search needs
-
-shown-requires-2 : tie.Need-shown-requires-2
-shown-requires-2 c κs =
-    let is-refused = c .before .before .before .is-refused in
-    let if1 = c .before .before .if1 in
-    let pre = c .before .before .before .before .before .before .pre in
-    let n = tick-narrow _ (sym (is-refused .ensures) ∙ if1 .left) in
-    (pre .1, omega (arith, n .0 .1), pre .2)
-
-array-read-levels : tie.Need-array-read-levels
-array-read-levels c = search needs
-
-array-read-levels-2 : tie.Need-array-read-levels-2
-array-read-levels-2 c = search needs
-
-levels-requires : tie.Need-levels-requires
-levels-requires c κs =
-    let is-refused = c .before .before .before .before .before .is-refused in
-    let if1 = c .before .before .before .before .if1 in
-    let pre = c .before .before .before .before .before .before .before .before .pre in
-    let n = tick-narrow _ (sym (is-refused .ensures) ∙ if1 .left) in
-    (pre .1, omega (arith, n .0 .0), omega (arith, n .0 .1), pre .2)
-
-put-pixels-requires : tie.Need-put-pixels-requires
-put-pixels-requires c κs = search needs
 
 same-length-3 : tie.Need-same-length-3
 same-length-3 c = search needs
 
+returns-2 : tie.Need-returns-2
+returns-2 c =
+    let is-refused = c .before .before .before .before .before .before .before .before .before .before .is-refused in
+    let if1 = c .before .before .before .before .before .before .before .before .before .if1 in
+    let args = c .before .before .before .before .before .before .before .before .before .before .before .before .before .args in
+    let keep = c .before .before .keep in
+    let pre = c .before .before .before .before .before .before .before .before .before .before .before .before .before .pre in
+    let if2 = c .before .before .before .before .before .before .before .before .if2 in
+    let put-answer2 = c .before .before .before .before .before .before .put-answer2 in
+    let r = sym (is-refused .ensures) ∙ if1 .left in
+    let l = now (args .places) in
+    let s = stateFrom l in
+    record {
+      state = ap stateFrom (keep .ensures) ∙ kept-state l (pre .0 .long ∙ largest-long) black ∙ (λ i. record { port = s .port; before = after-dark (s .port .values) _ (s .before) r (if2 .taken) i });
+      answer = put-answer2 .ensures ∙ tick-dark (s .port .values) _ (s .before) r (if2 .taken);
+    }
+
+put-lit-requires : tie.Need-put-lit-requires
+put-lit-requires c κs =
+    let is-refused = c .before .before .before .before .is-refused in
+    let if1 = c .before .before .before .if1 in
+    let pre = c .before .before .before .before .before .before .before .pre in
+    let if2 = c .before .before .if2 in
+    let r = sym (is-refused .ensures) ∙ if1 .left in
+    (pre .0, r, level-high _ r (if2 .left), pre .1)
+
+same-length-4 : tie.Need-same-length-4
+same-length-4 c = search needs
+
+same-length-5 : tie.Need-same-length-5
+same-length-5 c = search needs
+
 returns-3 : tie.Need-returns-3
-returns-3 c =
-    let o = c .before .before .before .before .before .before .before .before .before .before .before .before .args .t4 in
-    let r = sym (c .before .before .before .before .before .before .before .before .before .is-refused .ensures) ∙ c .before .before .before .before .before .before .before .before .if1 .left in
-    let high = level-high o r (c .before .before .before .before .before .before .before .if2 .left) in
-    let l = now (c .before .before .before .before .before .before .before .before .before .before .before .before .args .registers) in
-    let b = colourIs (c .before .before .before .before .before .before .before .before .before .before .before .before .args .before) in
-    let da = colourIs (c .before .before .before .before .before .before .shown .result) in
-    let db = colourIs (c .before .before .before .before .before .shown2 .result) in
-    (c .before .before .put-pixels .ensures ∙ tick-lit l o b r high da db (c .before .before .before .before .before .before .shown .ensures) (c .before .before .before .before .before .shown2 .ensures) _ (c .before .before .before .levels .ensures), after-lit l o b r high da db (c .before .before .before .before .before .before .shown .ensures) (c .before .before .before .before .before .shown2 .ensures))
+returns-3 c = search needs
 
 pub put-tick-spec : {M : Type 1} → statement M
 put-tick-spec =
@@ -108,15 +91,11 @@ put-tick-spec =
     returns
     array-read-if2
     put-answer-requires-2
+    keep-requires
     same-length-2
-    returns-2
-    array-read-shown
-    shown-requires
-    array-read-shown-2
-    shown-requires-2
-    array-read-levels
-    array-read-levels-2
-    levels-requires
-    put-pixels-requires
     same-length-3
+    returns-2
+    put-lit-requires
+    same-length-4
+    same-length-5
     returns-3)

@@ -1,11 +1,12 @@
 //! One case of the run: a snapshot, a log and two buffers.
 
+use crate::calls::record::{Record, Whole};
 use crate::compared::{pattern, Compared, Lending};
 use crate::library::{Call, Outcome};
 use crate::report::{Shown, Table, RUNS};
 use crate::shrink;
-use kit::Random;
-use model::{ANSWER_BYTES, END_BUFFER_BYTES, MOST_EVENTS};
+use kit::{Random, EVENT_BYTES, LOG_HEADER_BYTES, OPERAND_BYTES};
+use model::{Event, Refusal, ANSWER_BYTES, END_BUFFER_BYTES, MOST_EVENTS};
 
 /// The numbers of a run's byte strings that are written.
 const ANSWERS: usize = 2;
@@ -37,6 +38,40 @@ impl Case {
     }
 }
 
+/// The refusals that need no more than a chip and an event.
+const OF_AN_EVENT: [Refusal; 3] = [Refusal::Vertical, Refusal::Kind, Refusal::UnusedByte];
+
+impl Case {
+    /// What a refusal that this event brings to any state of the log's chip hides.
+    fn behind(&self, refusal: u64, event: Event) -> Vec<Shown> {
+        let is = |fault: &Refusal| refusal == u64::from(fault.number());
+        if !OF_AN_EVENT.iter().any(is) {
+            return Vec::new();
+        }
+        let state = Whole::fresh(self.log[0]);
+        let mut shown = Record::Event { state, event }.shown();
+        shown.retain(|&(first, next)| first == refusal && next != 0);
+        shown
+    }
+}
+
+/// The events of a log whose length fits its count.
+fn events(log: &[u8]) -> impl Iterator<Item = Event> + '_ {
+    let count = claimed_count(log);
+    let behind = log.get(LOG_HEADER_BYTES..).unwrap_or_default();
+    let fitting = if behind.len() == EVENT_BYTES * count {
+        behind
+    } else {
+        &[]
+    };
+    let (kinds, operands) = fitting.split_at(fitting.len() / EVENT_BYTES);
+    let operands = operands.chunks_exact(OPERAND_BYTES);
+    kinds.iter().zip(operands).map(|(&kind, bytes)| Event {
+        kind,
+        operand: bytes.try_into().expect("as long as an operand"),
+    })
+}
+
 impl Compared for Case {
     const CALL: Call = Call::Run;
 
@@ -64,14 +99,26 @@ impl Compared for Case {
         }
     }
 
-    /// The refusal that is returned, and those in the answers.
+    /// The refusal that is returned, and those in the answers; and with each that
+    /// an event's kind or its unused bytes bring, each that would come next.
     fn shown(&self, agreed: &Outcome) -> Vec<Shown> {
-        let mut shown = vec![(agreed.result >> 16, 0)];
-        if agreed.result >> 16 == 0 {
+        let returned = agreed.result >> 16;
+        let mut shown = vec![(returned, 0)];
+        if returned == 0 {
             let answers = agreed.answers().chunks(ANSWER_BYTES);
-            let played = answers.take(claimed_count(&self.log));
-            let refused = played.filter(|answer| answer[0] != 0);
-            shown.extend(refused.map(|answer| (answer[0].into(), 0)));
+            let played = answers.zip(events(&self.log));
+            for (answer, event) in played.filter(|(answer, _)| answer[0] != 0) {
+                shown.push((answer[0].into(), 0));
+                shown.extend(self.behind(answer[0].into(), event));
+            }
+        } else {
+            let behind = |event| self.behind(returned, event);
+            shown.extend(
+                events(&self.log)
+                    .map(behind)
+                    .find(|next| !next.is_empty())
+                    .unwrap_or_default(),
+            );
         }
         shown
     }

@@ -5,17 +5,20 @@ use crate::case::Case;
 use crate::compared::{class, Class, Sweep};
 use crate::damage::{damage_length, damaged_log, damaged_snapshot};
 use crate::damage::{several_faults, two_indexed_faults, LOG_FAULTS, SNAPSHOT_FAULTS};
-use kit::{address_place, largest, log_bytes, nonzero, place_count, snapshot_bytes};
-use kit::{c, read, save, tick, vertical, write, Random, CHIPS};
-use kit::{LOG_HEADER_BYTES, OLDER_MOST_EVENTS};
-use model::{Event, ANSWER_BYTES, END_BUFFER_BYTES, MOST_EVENTS};
+use kit::{c, load, p3, read, save, tick, vertical, write, Random, CHIPS};
+use kit::{counter_places, largest, log_bytes, nonzero, place_count, snapshot_bytes};
+use kit::{used_bytes, LOG_HEADER_BYTES, OLDER_MOST_EVENTS};
+use model::{kind, Event, ANSWER_BYTES, END_BUFFER_BYTES, MOST_EVENTS};
 
 pub const RANDOM: &[Class<Case>] = &[
     class("logs, chip 1", 700, |random| any_log(random, 1)),
     class("logs, chip 2", 700, |random| any_log(random, 2)),
+    class("logs, chip 3", 700, |random| any_log(random, 3)),
     class("one event on any state", 3000, one_event),
     class("ticks through the blink cycle", 40, blink_cycle),
-    class("colours written and read round FFh", 150, round_the_end),
+    class("chains of REP", 120, chain_of_rep),
+    class("events between a register's two loads", 150, between_loads),
+    class("colours round the end of the table", 150, round_the_end),
     class("saves between all other events", 150, saves_between),
     class("full snapshots", 60, full_snapshot),
     class("long logs", 6, long_log),
@@ -78,24 +81,91 @@ fn blink_cycle(random: &mut Random) -> Case {
     Case::exact(snapshot, log_bytes(1, &events), random)
 }
 
-/// Long runs of colour accesses across the last address.
+/// Chip 3: ticks that mostly repeat, now and then DATEN low, loads or a save
+/// between them.
+fn chain_of_rep(random: &mut Random) -> Case {
+    let mut places = random.full_places(3);
+    let rare = random.pick(&[3, 10, 40]);
+    for register in places[..p3::LOAD_POSITION].chunks_exact_mut(p3::REGISTER_PLACES) {
+        register[p3::REP] = u8::from(!random.one_in(rare));
+    }
+    let mut events = Vec::new();
+    for _ in 0..30 {
+        match random.below(12) {
+            0 => events.push(tick([random.up_to(15), random.up_to(15), 0, 0, 0, 0, 0, 0])),
+            1 => events.extend([random.repeating_load(), random.load()]),
+            2 => events.push(save()),
+            _ => events.push(shown(random.up_to(15), random.up_to(15))),
+        }
+    }
+    let snapshot = snapshot_bytes(3, &nonzero(&places));
+    Case::exact(snapshot, log_bytes(3, &events), random)
+}
+
+/// A chip 3 tick with DATEN high.
+fn shown(da: u8, db: u8) -> Event {
+    tick([da, db, 0, 0, 0, 0, 0, 1])
+}
+
+/// Chip 3: the two loads of each of some registers, with ticks that show it and
+/// the next one, saves and refused events before, between and behind them.
+fn between_loads(random: &mut Random) -> Case {
+    let mut places = random.places(3);
+    let register = random.up_to(15);
+    places[p3::LOAD_POSITION] = 2 * register;
+    let mut events = Vec::new();
+    for number in 0..3 {
+        let register = (register + number) % 16;
+        for _ in 0..2 {
+            events.extend(between(random, register));
+            events.push(random.load());
+        }
+        events.extend(between(random, register));
+    }
+    let snapshot = snapshot_bytes(3, &nonzero(&places));
+    Case::exact(snapshot, log_bytes(3, &events), random)
+}
+
+/// Up to two events that leave the load position as it is.
+fn between(random: &mut Random, register: u8) -> Vec<Event> {
+    let next = (register + 1) % 16;
+    let events = [
+        shown(register, next),
+        shown(next, register),
+        save(),
+        random.odd_load(),
+        random.access(),
+        random.odd_tick(3),
+        vertical(),
+    ];
+    let count = random.below(3);
+    (0..count).map(|_| random.pick(&events)).collect()
+}
+
+/// Long runs of colour accesses or loads across the last entry.
 fn round_the_end(random: &mut Random) -> Case {
     let chip = random.chip();
+    let mut places = random.places(chip);
+    let counter = counter_places(chip)[0];
+    places[counter] = largest(chip, counter) - random.up_to(3);
     let mut events = Vec::new();
     for _ in 0..4 {
-        events.push(write(random.pick(&[0, 3]), 252 + random.up_to(3)));
-        for _ in 0..16 {
-            let byte = random.byte();
-            events.push(if random.one_in(2) {
-                write(1, byte)
-            } else {
-                read(1)
-            });
-        }
+        events.extend((0..16).map(|_| table_access(random, chip)));
         events.extend([read(0), read(2), read(3)]);
+        events.push(write(random.pick(&[0, 3]), 252 + random.up_to(3)));
     }
-    let snapshot = random.snapshot(chip);
+    let snapshot = snapshot_bytes(chip, &nonzero(&places));
     Case::exact(snapshot, log_bytes(chip, &events), random)
+}
+
+/// An access that moves through the table of colours.
+fn table_access(random: &mut Random, chip: u8) -> Event {
+    match chip {
+        1 | 2 if random.one_in(2) => write(1, random.byte()),
+        1 | 2 => read(1),
+        3 => random.load(),
+        _ => panic!("chip {chip} has no table"),
+    }
 }
 
 fn saves_between(random: &mut Random) -> Case {
@@ -217,16 +287,28 @@ pub const SWEEPS: &[Sweep<Case>] = &[
         cases: every_selector,
     },
     Sweep {
-        name: "every address with every selector",
-        cases: every_address,
+        name: "every address, position and load position",
+        cases: every_count,
     },
     Sweep {
-        name: "every kind byte, OL byte and level byte",
-        cases: every_kind_and_level,
+        name: "every kind byte, every byte of ticks and loads",
+        cases: every_kind_and_byte,
+    },
+    Sweep {
+        name: "DA and DB of 15 and 16, beside other faults",
+        cases: pins_and_faults,
+    },
+    Sweep {
+        name: "every pair of registers, shown and loaded",
+        cases: every_pair_of_registers,
     },
     Sweep {
         name: "every place: largest value, one more, 0",
         cases: every_place,
+    },
+    Sweep {
+        name: "as many places as a chip has, and one more",
+        cases: every_place_count,
     },
     Sweep {
         name: "every chip byte",
@@ -246,15 +328,22 @@ pub const SWEEPS: &[Sweep<Case>] = &[
     },
 ];
 
-/// A state with something to see everywhere.
-pub fn lively(random: &mut Random, chip: u8, address: u8, position: u8) -> Vec<u8> {
+/// A state with something to see everywhere. The counters, of which a chip may
+/// have fewer, have these values.
+pub fn lively(random: &mut Random, chip: u8, counters: &[u8]) -> Vec<u8> {
     let mut places: Vec<u8> = (0..place_count(chip))
         .map(|place| random.up_to(largest(chip, place)))
         .collect();
-    let at = address_place(chip);
-    places[at] = address;
-    places[at + 1] = position;
+    for (&place, &value) in counter_places(chip).iter().zip(counters) {
+        places[place] = value;
+    }
     snapshot_bytes(chip, &nonzero(&places))
+}
+
+/// One event on a lively state.
+fn on_lively(random: &mut Random, chip: u8, event: Event) -> Case {
+    let snapshot = lively(random, chip, &[0, 0]);
+    Case::exact(snapshot, log_bytes(chip, &[event]), random)
 }
 
 fn every_selector(random: &mut Random) -> Vec<Case> {
@@ -262,7 +351,8 @@ fn every_selector(random: &mut Random) -> Vec<Case> {
     for chip in CHIPS {
         for selector in 0..=255 {
             for event in [write(selector, random.byte()), read(selector)] {
-                let snapshot = lively(random, chip, useful_address(selector), selector % 3);
+                let counters = [useful_address(selector), selector % 3];
+                let snapshot = lively(random, chip, &counters);
                 cases.push(Case::exact(snapshot, log_bytes(chip, &[event]), random));
             }
         }
@@ -275,44 +365,105 @@ fn useful_address(number: u8) -> u8 {
     [2, 5, 3, 6][usize::from(number / 4 % 4)]
 }
 
-fn every_address(random: &mut Random) -> Vec<Case> {
+/// Every access at every value of the counters.
+fn every_count(random: &mut Random) -> Vec<Case> {
     let mut cases = Vec::new();
     for chip in CHIPS {
-        for address in 0..=255 {
-            for position in 0..=2 {
-                let mut events = Vec::new();
-                for selector in [1, 3, 2, 0] {
-                    events.extend([write(selector, random.byte()), read(selector)]);
-                    events.push(write(random.pick(&[0, 3]), address));
+        for counters in all_counters(chip) {
+            let mut events = Vec::new();
+            for selector in [1, 3, 2, 0] {
+                events.extend([write(selector, random.byte()), read(selector)]);
+                events.push(random.load());
+                events.push(write(random.pick(&[0, 3]), counters[0]));
+            }
+            let snapshot = lively(random, chip, &counters);
+            cases.push(Case::exact(snapshot, log_bytes(chip, &events), random));
+        }
+    }
+    cases
+}
+
+/// All values that a chip's counters can have together.
+fn all_counters(chip: u8) -> Vec<Vec<u8>> {
+    let mut all = vec![Vec::new()];
+    for &place in counter_places(chip) {
+        let with_each = |values: &Vec<u8>| {
+            let each = 0..=largest(chip, place);
+            let values = values.clone();
+            each.map(move |value| [&values[..], &[value]].concat())
+        };
+        all = all.iter().flat_map(with_each).collect();
+    }
+    all
+}
+
+/// Every kind with an operand of 0, and every value of each byte that a tick or
+/// a load uses.
+fn every_kind_and_byte(random: &mut Random) -> Vec<Case> {
+    let mut cases = Vec::new();
+    for chip in CHIPS {
+        for byte in 0..=255 {
+            let operand = [0; 8];
+            cases.push(on_lively(
+                random,
+                chip,
+                Event {
+                    kind: byte,
+                    operand,
+                },
+            ));
+            for kind in [kind::TICK, kind::LOAD] {
+                for &at in used_bytes(chip, kind) {
+                    let mut event = match kind {
+                        kind::TICK => random.tick(chip),
+                        _ => random.load(),
+                    };
+                    event.operand[at] = byte;
+                    cases.push(on_lively(random, chip, event));
                 }
-                let snapshot = lively(random, chip, address, position);
-                cases.push(Case::exact(snapshot, log_bytes(chip, &events), random));
             }
         }
     }
     cases
 }
 
-fn every_kind_and_level(random: &mut Random) -> Vec<Case> {
+/// Ticks and loads, and the kind behind them, with DA, DB and levels at and over
+/// the most that there is, and with an unused byte.
+fn pins_and_faults(random: &mut Random) -> Vec<Case> {
+    const PINS: [u8; 4] = [0, 15, 16, 255];
+    const LEVELS: [u8; 4] = [0, 1, 2, 129];
     let mut cases = Vec::new();
     for chip in CHIPS {
-        for byte in 0..=255 {
-            let odd_kind = Event {
-                kind: byte,
-                operand: [0; 8],
-            };
-            let mut events = vec![odd_kind, tick([byte, 0, 0, 0, 0, 0, 0, byte])];
-            match chip {
-                1 => events.extend([
-                    tick([byte, 1, 2, 3, 4, byte, 0, 1]),
-                    tick([byte, 1, 2, 3, 4, 0, byte, 3]),
-                ]),
-                2 => {}
-                _ => panic!("the ticks of chip {chip} aren't listed"),
+        for kind in [kind::TICK, kind::LOAD, kind::LOAD + 1] {
+            for (da, db) in PINS.iter().flat_map(|&da| PINS.map(|db| (da, db))) {
+                for (level, unused) in LEVELS.iter().flat_map(|&l| [(l, 0), (l, 1)]) {
+                    let operand = [da, db, 0, unused, 0, 0, 0, level];
+                    cases.push(on_lively(random, chip, Event { kind, operand }));
+                }
             }
-            for event in events {
-                let snapshot = lively(random, chip, 0, 0);
-                cases.push(Case::exact(snapshot, log_bytes(chip, &[event]), random));
+        }
+    }
+    cases
+}
+
+/// Chip 3, from every load position: a register's colour, EXT and REP loaded,
+/// with a tick of every pair of registers that has it between the loads.
+fn every_pair_of_registers(random: &mut Random) -> Vec<Case> {
+    let mut cases = Vec::new();
+    for position in 0..=largest(3, p3::LOAD_POSITION) {
+        let own = position / 2;
+        for other in 0..16 {
+            for attributes in 0..=3 {
+                let events = [
+                    shown(own, other),
+                    load(random.up_to(15), attributes),
+                    shown(other, own),
+                    load(random.up_to(15), random.up_to(15)),
+                    shown(own, other),
+                    shown(other, own),
+                ];
+                let snapshot = lively(random, 3, &[position]);
+                cases.push(Case::exact(snapshot, log_bytes(3, &events), random));
             }
         }
     }
@@ -346,6 +497,25 @@ pub fn places_alone() -> Vec<Vec<u8>> {
         }
     }
     snapshots
+}
+
+/// Every place of a chip, one behind the last besides, and one behind it in place
+/// of the last.
+fn every_place_count(random: &mut Random) -> Vec<Case> {
+    let mut cases = Vec::new();
+    for chip in CHIPS {
+        let outside = place_count(chip) as u16;
+        let all = nonzero(&random.full_places(chip));
+        let more = [&all[..], &[(outside, 1)]].concat();
+        let mut other = all.clone();
+        other[usize::from(outside) - 1].0 = outside;
+        for pairs in [all, more, other] {
+            let snapshot = snapshot_bytes(chip, &pairs);
+            let log = log_bytes(chip, &[save()]);
+            cases.push(Case::exact(snapshot, log, random));
+        }
+    }
+    cases
 }
 
 fn every_chip_byte(random: &mut Random) -> Vec<Case> {

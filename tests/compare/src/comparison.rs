@@ -23,6 +23,8 @@ pub const RUNS_FOR_ONE: usize = 300;
 /// A pair whose ticks differ, so the painting condition is seen to matter.
 const CONDITION_MATTERS: &str = "demand 3: painting not kept, a tick differs";
 const CONDITION_HELD: &str = "demand 3: painting kept, ticks compared";
+/// The same of pairs whose ends differ, of a chip whose ticks move places.
+const ENDS_DIFFER: &str = "demand 3: painting not kept, the end snapshots differ";
 
 /// The proved programs that are compared beside the library.
 #[derive(Default)]
@@ -206,6 +208,9 @@ impl Comparison {
                     if held.ticks_differ {
                         self.report.checked(CONDITION_MATTERS);
                     }
+                    if held.ends_differ {
+                        self.report.checked(ENDS_DIFFER);
+                    }
                 }
                 Err(_) => {
                     let small = self.shrunk(self.tries, |tries| pair.shrunk(tries));
@@ -358,6 +363,7 @@ impl Comparison {
         }
         self.begins(CONDITION_HELD, Call::Run);
         self.begins(CONDITION_MATTERS, Call::Run);
+        self.begins(ENDS_DIFFER, Call::Run);
         for class in calls::RANDOM {
             self.call_class(programs, class, round);
         }

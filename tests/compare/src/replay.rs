@@ -3,7 +3,8 @@
 use crate::case::Case;
 use crate::damage::{damaged_log, LOG_FAULTS};
 use crate::program::{printed_by, printed_of_a_file, WHOLE};
-use kit::{hexadecimal, highest_kind, log_bytes, read, vertical, write, Random, CHIPS};
+use kit::{hexadecimal, highest_kind, load, log_bytes, read, save, tick, vertical, write};
+use kit::{Random, CHIPS};
 use kit::{MOST_LOG_BYTES, OLDER_MOST_EVENTS};
 use model::{Event, MOST_EVENTS};
 use std::path::Path;
@@ -156,6 +157,37 @@ fn reads_inside_triples() -> Vec<Event> {
     events
 }
 
+/// Ticks of each register and the next one, saves and refused loads before,
+/// between and behind its two loads. Two registers of four repeat, and there is
+/// a tick with DATEN low for every four.
+fn ticks_inside_registers() -> Vec<Event> {
+    let mut events = Vec::new();
+    for register in 0..16 {
+        let next = (register + 1) % 16;
+        let around = [
+            tick([register, next, 0, 0, 0, 0, 0, 1]),
+            tick([next, register, 0, 0, 0, 0, 0, u8::from(register % 4 != 1)]),
+            save(),
+            load(16, register),
+        ];
+        events.extend(around);
+        for half in [load(15 - register, register % 4), load(register, 7)] {
+            events.push(half);
+            events.extend(around);
+        }
+    }
+    events
+}
+
+/// What can stand inside an entry's accesses, and the sample's name.
+fn inside_entries(chip: u8) -> (&'static str, Vec<Event>) {
+    match chip {
+        1 | 2 => ("triples", reads_inside_triples()),
+        3 => ("registers", ticks_inside_registers()),
+        _ => panic!("the entries of chip {chip} aren't listed"),
+    }
+}
+
 /// Logs for a run without proof, which an interpreter plays too: for each chip
 /// an accepted log and one of no events, whose end snapshot is the fresh
 /// chip's, one event of each kind with no operand byte 0, then logs with each
@@ -167,8 +199,8 @@ pub fn samples(random: &mut Random) -> Vec<(String, Vec<u8>)> {
         let events = random.events(chip, 1_000);
         samples.push((format!("accepted-chip-{chip}"), log_bytes(chip, &events)));
         samples.push((format!("empty-chip-{chip}"), log_bytes(chip, &[])));
-        let reads = reads_inside_triples();
-        samples.push((format!("triples-chip-{chip}"), log_bytes(chip, &reads)));
+        let (name, inside) = inside_entries(chip);
+        samples.push((format!("{name}-chip-{chip}"), log_bytes(chip, &inside)));
         for kind in 0..=highest_kind(chip) {
             let operand = [1; 8];
             let name = format!("operand-of-kind-{kind}-chip-{chip}");

@@ -43,7 +43,8 @@ pub struct Table {
 }
 
 /// Every refusal of document 01's table that a run can show: 1 to 5 in
-/// answers, the others returned.
+/// answers, the others returned; of those that an event brings by its kind and
+/// its unused bytes, also each that comes next.
 pub static RUNS: Table = Table {
     title: "runs",
     rows: &[
@@ -51,10 +52,13 @@ pub static RUNS: Table = Table {
         row(Refusal::Selector, "in an answer: selector over 3"),
         row(Refusal::Address, "in an answer: overlay or control address"),
         row(Refusal::Direction, "in an answer: direction"),
-        row(Refusal::TickBits, "in an answer: tick bits"),
+        row(
+            Refusal::TickBits,
+            "in an answer: undefined bits of a tick or a load",
+        ),
         row(
             Refusal::Vertical,
-            "in an answer: vertical period on a chip without one",
+            "in an answer: an event that the chip doesn't have",
         ),
         row(Refusal::LogShort, "log under 5 bytes"),
         row(Refusal::LogChip, "log's chip"),
@@ -71,6 +75,16 @@ pub static RUNS: Table = Table {
         row(Refusal::TwoChips, "snapshot and log for two chips"),
         row(Refusal::AnswerBuffer, "answer buffer"),
         row(Refusal::EndBuffer, "end buffer"),
+        before(Refusal::Kind, Refusal::UnusedByte),
+        before(Refusal::UnusedByte, Refusal::Selector),
+        before(Refusal::UnusedByte, Refusal::Address),
+        before(Refusal::UnusedByte, Refusal::Direction),
+        before(Refusal::UnusedByte, Refusal::TickBits),
+        before(Refusal::UnusedByte, Refusal::Vertical),
+        before(Refusal::Vertical, Refusal::Selector),
+        before(Refusal::Vertical, Refusal::Address),
+        before(Refusal::Vertical, Refusal::Direction),
+        before(Refusal::Vertical, Refusal::TickBits),
     ],
 };
 

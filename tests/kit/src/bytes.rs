@@ -21,6 +21,15 @@ pub fn snapshot_bytes(chip: u8, pairs: &[(u16, u8)]) -> Vec<u8> {
     bytes
 }
 
+/// The places of a snapshot and their values, as far as it has them.
+pub fn place_values(snapshot: &[u8]) -> Vec<(u16, u8)> {
+    let behind = snapshot.get(3..).unwrap_or_default();
+    let (numbers, values) = behind.split_at(behind.len() / 3 * 2);
+    let numbers = numbers.chunks_exact(2);
+    let places = numbers.map(|number| u16::from_le_bytes([number[0], number[1]]));
+    places.zip(values.iter().copied()).collect()
+}
+
 /// The places that aren't 0.
 pub fn nonzero(places: &[u8]) -> Vec<(u16, u8)> {
     let numbered = (0u16..).zip(places.iter().copied());

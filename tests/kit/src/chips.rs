@@ -5,6 +5,7 @@
 //! row, and asking for it is a fault of the test.
 
 use model::kind;
+use std::ops::Range;
 
 /// The chip bytes of the chips that are built.
 pub const CHIPS: [u8; 3] = [1, 2, 3];
@@ -121,13 +122,21 @@ pub fn counter_places(chip: u8) -> &'static [usize] {
     }
 }
 
-/// The place of the address, for the chips that have one; its position follows.
-/// [`counter_places`] is for every chip.
-pub fn address_place(chip: u8) -> usize {
+/// How many places an entry of the table has: red, green, blue and, on chip 3,
+/// EXT and REP.
+pub fn entry_places(chip: u8) -> usize {
     match chip {
-        1 => p1::ADDRESS,
-        2 => p2::ADDRESS,
-        3 => panic!("chip 3 has no address"),
+        1 | 2 => 3,
+        3 => p3::REGISTER_PLACES,
+        _ => no_such_chip(chip),
+    }
+}
+
+/// The places that a tick moves.
+pub fn places_that_ticks_move(chip: u8) -> Range<usize> {
+    match chip {
+        1 | 2 => 0..0,
+        3 => p3::COLOUR_BEFORE..p3::COUNT,
         _ => no_such_chip(chip),
     }
 }
@@ -158,6 +167,17 @@ pub fn largest(chip: u8, place: usize) -> u8 {
 pub fn highest_kind(chip: u8) -> u8 {
     match chip {
         1..=3 => kind::LOAD,
+        _ => no_such_chip(chip),
+    }
+}
+
+/// The kinds of events that a log of this chip may hold and that the chip refuses
+/// whatever their operand (5).
+pub fn kinds_not_on(chip: u8) -> &'static [u8] {
+    match chip {
+        1 => &[kind::LOAD],
+        2 => &[kind::VERTICAL, kind::LOAD],
+        3 => &[kind::WRITE, kind::READ, kind::VERTICAL],
         _ => no_such_chip(chip),
     }
 }

@@ -16,10 +16,11 @@ mod numbers;
 mod random;
 mod shuffle;
 
-pub use bytes::{hexadecimal, log_bytes, nonzero, snapshot_bytes};
-pub use chips::{address_place, chip_of_round, counter_places, highest_kind, largest, not_built};
+pub use bytes::{hexadecimal, log_bytes, nonzero, place_values, snapshot_bytes};
 pub use chips::{c, p1, p2, p3, rs, undefined_tick_bits, used_bytes, CHIPS, NOT_BUILT};
-pub use chips::{other_chips, place_count, table_places, CURRENTS_CHIP, UNDEFINED_LOAD_BITS};
+pub use chips::{chip_of_round, counter_places, entry_places, highest_kind, kinds_not_on};
+pub use chips::{largest, not_built, other_chips, place_count, places_that_ticks_move};
+pub use chips::{table_places, CURRENTS_CHIP, UNDEFINED_LOAD_BITS};
 pub use events::{is_access, is_display, is_save, is_tick, only, Sort};
 pub use events::{load, read, save, tick, vertical, write};
 pub use numbers::{ANSWER_BYTES, END_BYTES, EVENT_BYTES, LOG_HEADER_BYTES, MOST_EVENTS};

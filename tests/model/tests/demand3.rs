@@ -9,10 +9,12 @@
 use crate::common::{play, Played};
 use kit::{before_painting, free_shuffle, painting_shuffle, with_saves, Random, Sort};
 use kit::{is_access, is_display, is_save, is_tick, log_bytes, only, p2, p3, snapshot_bytes};
-use kit::{load, save as save_event, tick, vertical, write, ANSWER_BYTES, MOST_EVENTS};
+use kit::{
+    load, places_that_ticks_move, save as save_event, tick, vertical, write, ANSWER_BYTES,
+    MOST_EVENTS,
+};
 use model::{kind, painting_accesses, restore, save, Answer, Event};
 use std::collections::BTreeMap;
-use std::ops::Range;
 
 /// How much of each class the random logs held, so that no test passes by
 /// being empty.
@@ -83,16 +85,6 @@ impl Census {
                 self.ticks_inside_a_register += usize::from(is_tick(event));
             }
         }
-    }
-}
-
-/// The places that a tick moves: where ends may differ without the painting
-/// condition.
-fn places_that_ticks_move(chip: u8) -> Range<usize> {
-    match chip {
-        1 | 2 => 0..0,
-        3 => p3::COLOUR_BEFORE..p3::COUNT,
-        _ => panic!("what a tick of chip {chip} moves isn't listed"),
     }
 }
 

@@ -8,7 +8,7 @@ use crate::calls::record::{Record, Whole, BUFFER_BYTES, CALLS};
 use crate::classes::scramble;
 use crate::currents::classes::codes_at_outputs;
 use crate::damage::{damaged_snapshot, snapshot_with_two_faults, SNAPSHOT_FAULTS};
-use kit::{address_place, highest_kind, largest, nonzero, other_chips, p1, p2, place_count};
+use kit::{counter_places, highest_kind, largest, nonzero, other_chips, p1, p2, place_count};
 use kit::{read, save, snapshot_bytes, write, Random, CHIPS, CURRENTS_CHIP};
 use model::{Event, Operand, Refusal, END_BUFFER_BYTES};
 
@@ -73,7 +73,7 @@ pub const RANDOM: &[Class] = &[
 ];
 
 /// Records for a run without proof, which an interpreter plays too: some of each
-/// class, two sweeps, and a part of a third.
+/// class, three sweeps, and a part of a fourth.
 pub fn samples(random: &mut Random) -> Vec<(String, Vec<Record>)> {
     const RECORDS: usize = 8;
     let mut samples = Vec::new();
@@ -88,6 +88,7 @@ pub fn samples(random: &mut Random) -> Vec<(String, Vec<Record>)> {
         ("every-code", every_code_shown()),
         ("every-operand-byte", every_operand_byte(random)),
         ("every-selector", every_selector(random)),
+        ("every-load", every_load(random)),
     ] {
         let parts = records.chunks(AT_A_TIME).enumerate();
         samples.extend(parts.map(|(i, part)| (format!("{name}-{i}"), part.to_vec())));
@@ -321,6 +322,10 @@ pub const SWEEPS: &[Sweep] = &[
         batches: |random| vec![Batch::whole(every_selector(random))],
     },
     Sweep {
+        name: "calls: loads at every position",
+        batches: |random| vec![Batch::whole(every_load(random))],
+    },
+    Sweep {
         name: "calls: currents, every code at every output",
         batches: |_| vec![Batch::whole(every_code())],
     },
@@ -426,20 +431,48 @@ fn every_code_shown() -> Vec<Record> {
     five.take(52).map(code_record).collect()
 }
 
-/// Writes and reads at each position, chip 2 set for writing and for reading.
+/// A state with no place 0 but, maybe, the counter of the parts of a colour or a
+/// register: chip 1's and 2's position, chip 3's load position.
+fn at_position(random: &mut Random, chip: u8, position: u8) -> Whole {
+    let mut state = full(random, chip);
+    state.part(chip)[position_place(chip)] = position;
+    state
+}
+
+/// The counter that moves with every access to the table.
+fn position_place(chip: u8) -> usize {
+    let counters = counter_places(chip);
+    counters[counters.len() - 1]
+}
+
+/// Writes and reads at each position of a triple, chip 2 set for writing and for
+/// reading.
 fn every_selector(random: &mut Random) -> Vec<Record> {
     let mut records = Vec::new();
     for chip in CHIPS {
         for (position, direction) in (0..3).flat_map(|position| [(position, 0), (position, 1)]) {
             for selector in 0..=4 {
                 for event in [write(selector, random.byte()), read(selector)] {
-                    let mut state = full(random, chip);
-                    state.part(chip)[address_place(chip) + 1] = position;
+                    let mut state = at_position(random, chip, position);
                     if chip == 2 {
                         state.part(chip)[p2::DIRECTION] = direction;
                     }
                     records.push(Record::Event { state, event });
                 }
+            }
+        }
+    }
+    records
+}
+
+/// Loads at each position, right ones and such with an undefined bit.
+fn every_load(random: &mut Random) -> Vec<Record> {
+    let mut records = Vec::new();
+    for chip in CHIPS {
+        for position in 0..=largest(chip, position_place(chip)) {
+            for event in [random.load(), random.odd_load()] {
+                let state = at_position(random, chip, position);
+                records.push(Record::Event { state, event });
             }
         }
     }

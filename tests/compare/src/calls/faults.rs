@@ -2,9 +2,9 @@
 
 use crate::calls::record::Whole;
 use crate::damage::damage_operand;
-use kit::{c, highest_kind, largest, other_chips, p1, p2, place_count, read, rs};
+use kit::{c, highest_kind, kinds_not_on, largest, other_chips, p1, p2, place_count, read, rs};
 use kit::{used_bytes, vertical, write, Random, CHIPS};
-use model::{Event, Refusal};
+use model::{kind, Event, Refusal};
 
 /// The refusals that come from a chip's own rules.
 pub const OF_THE_CHIP: [Refusal; 5] = [
@@ -80,8 +80,9 @@ fn damage_one_operand(random: &mut Random, chip: u8, event: &mut Event) {
 fn chips_with(fault: Refusal) -> &'static [u8] {
     match fault {
         Refusal::Address => &[1],
-        Refusal::Direction | Refusal::Vertical => &[2],
-        Refusal::Selector | Refusal::TickBits => &CHIPS,
+        Refusal::Direction => &[2],
+        Refusal::Selector => &[1, 2],
+        Refusal::TickBits | Refusal::Vertical => &CHIPS,
         Refusal::Kind | Refusal::UnusedByte => &CHIPS,
         _ => panic!("{fault:?} is no fault of an event"),
     }
@@ -106,8 +107,9 @@ fn refused_event(random: &mut Random, chip: u8, places: &mut [u8], fault: Refusa
                 _ => write(rs::CLT, random.byte()),
             }
         }
+        Refusal::TickBits if chip == 3 && random.one_in(2) => random.odd_load(),
         Refusal::TickBits => random.odd_tick(chip),
-        Refusal::Vertical => vertical(),
+        Refusal::Vertical => not_on(random, chip),
         Refusal::Kind => odd_kind(random, chip),
         Refusal::UnusedByte => {
             let mut event = random.event(chip);
@@ -115,6 +117,19 @@ fn refused_event(random: &mut Random, chip: u8, places: &mut [u8], fault: Refusa
             event
         }
         _ => panic!("{fault:?} is no fault of an event"),
+    }
+}
+
+/// An event of a kind that the chip doesn't have; another chip would refuse some
+/// of them for what they hold.
+fn not_on(random: &mut Random, chip: u8) -> Event {
+    match random.pick(kinds_not_on(chip)) {
+        kind::WRITE => write(random.pick(&[0, 1, 2, 3, 4, 255]), random.byte()),
+        kind::READ => read(random.pick(&[0, 1, 2, 3, 4, 255])),
+        kind::VERTICAL => vertical(),
+        kind::LOAD if random.one_in(2) => random.odd_load(),
+        kind::LOAD => random.load(),
+        other => panic!("no event of kind {other} is listed"),
     }
 }
 

@@ -15,7 +15,8 @@
 //! Bytes are printed as lowercase hexadecimal digits, numbers in decimal.
 
 use crate::report::{before, row, Shown, Table, ACCEPTED};
-use kit::{hexadecimal, highest_kind, largest, place_count, used_bytes, CHIPS, CURRENTS_CHIP};
+use kit::{hexadecimal, highest_kind, kinds_not_on, largest, other_chips, place_count};
+use kit::{used_bytes, CHIPS, CURRENTS_CHIP};
 use model::{event, kind, restore, save_into, tick_currents, Event, Operand, Refusal, State};
 
 /// The most records that the program plays.
@@ -226,8 +227,8 @@ impl Record {
     }
 
     /// The call without the fault that it is refused for: for a chip that isn't
-    /// built, with each chip that is, and for one without currents, with the
-    /// chip that has them.
+    /// built, with each chip that is; for one without currents, with the chip
+    /// that has them; for one without the event, with each fresh chip that has it.
     fn mended(&self, refusal: u64) -> Vec<Record> {
         let is = |fault: Refusal| refusal == u64::from(fault.number());
         if is(Refusal::SnapshotChip) {
@@ -235,6 +236,9 @@ impl Record {
         }
         if is(Refusal::CurrentsChip) {
             return self.on(CURRENTS_CHIP).into_iter().collect();
+        }
+        if is(Refusal::Vertical) {
+            return self.on_chips_with_the_event();
         }
         let mut record = self.clone();
         if let Some(state) = record.state().filter(|_| is(Refusal::Value)) {
@@ -256,6 +260,19 @@ impl Record {
         let mut record = self.clone();
         record.state()?.chip = chip;
         Some(record)
+    }
+
+    fn on_chips_with_the_event(&self) -> Vec<Record> {
+        let Record::Event { state, event } = self else {
+            return Vec::new();
+        };
+        let mut chips = other_chips(state.chip);
+        chips.retain(|&chip| !kinds_not_on(chip).contains(&event.kind));
+        let on = |chip| Record::Event {
+            state: Whole::fresh(chip),
+            event: *event,
+        };
+        chips.into_iter().map(on).collect()
     }
 
     /// The state that the call takes, if it takes one.
@@ -314,7 +331,8 @@ fn clear_unused(chip: u8, event: &mut Event) {
 
 pub static TABLES: [&Table; 4] = [&EVENTS, &SAVES, &RESTORES, &CURRENTS];
 
-/// Event called by itself: 21, 25, 14, 15, then 1 to 5.
+/// Event called by itself: 21, 25, 14, 15, then 5 where the chip lacks the kind,
+/// then 1 to 4.
 pub static EVENTS: Table = Table {
     title: "events called by themselves",
     rows: &[
@@ -322,8 +340,8 @@ pub static EVENTS: Table = Table {
         row(Refusal::Selector, "selector over 3"),
         row(Refusal::Address, "overlay or control address"),
         row(Refusal::Direction, "direction"),
-        row(Refusal::TickBits, "tick bits"),
-        row(Refusal::Vertical, "vertical period on a chip without one"),
+        row(Refusal::TickBits, "undefined bits of a tick or a load"),
+        row(Refusal::Vertical, "an event that the chip doesn't have"),
         row(Refusal::Kind, "kind over the highest"),
         row(Refusal::UnusedByte, "unused operand byte"),
         row(Refusal::SnapshotChip, "state's chip not built"),
@@ -349,6 +367,10 @@ pub static EVENTS: Table = Table {
         before(Refusal::UnusedByte, Refusal::Direction),
         before(Refusal::UnusedByte, Refusal::TickBits),
         before(Refusal::UnusedByte, Refusal::Vertical),
+        before(Refusal::Vertical, Refusal::Selector),
+        before(Refusal::Vertical, Refusal::Address),
+        before(Refusal::Vertical, Refusal::Direction),
+        before(Refusal::Vertical, Refusal::TickBits),
     ],
 };
 
@@ -433,7 +455,7 @@ mod tests {
         assert_eq!(shown(Whole::fresh(1), BLACK), [(0, 0)]);
         assert_eq!(shown(Whole::fresh(1), ODD), [(4, 0)]);
         assert_eq!(shown(too_large(1), ODD), [(25, 0), (25, 4)]);
-        for chip in [0, 2, 9] {
+        for chip in [0, 2, 3, 9] {
             assert_eq!(shown(Whole::fresh(chip), BLACK), [(40, 0)]);
             assert_eq!(shown(Whole::fresh(chip), ODD), [(40, 0), (40, 4)]);
             assert_eq!(shown(too_large(chip), ODD), [(40, 0), (40, 25)]);

@@ -149,7 +149,7 @@ fn every_ol_and_level(random: &mut Random) -> Vec<Case> {
         for at in 5..OPERAND_BYTES {
             let mut operand = [byte, 1, 2, 3, 4, 0, 0, random.pick(&[1, 3])];
             operand[at] = byte;
-            let snapshot = lively(random, CURRENTS_CHIP, 0, 0);
+            let snapshot = lively(random, CURRENTS_CHIP, &[0, 0]);
             cases.push(Case::exact(snapshot, &operand, random));
         }
     }

@@ -4,10 +4,9 @@
 use crate::program::WHOLE;
 use crate::tool::classes::{ASSEMBLED, LONG_LOG, LONG_SNAPSHOT, NOT_UNDERSTOOD};
 use crate::tool::classes::{CURRENTS_BLANKED, CURRENTS_FIVE, CURRENTS_FOUR};
-use crate::tool::classes::{
-    LISTED_CHIPS, LISTED_EMPTY, LISTED_MOST, LISTED_PIECES, LISTED_VERTICALS,
-};
-use crate::tool::classes::{RUN_BLANKED, RUN_CHIPS, RUN_TICK, SHOWN_CHIPS, SHOWN_DIFFERENT};
+use crate::tool::classes::{LISTED_CHIPS, LISTED_EMPTY, LISTED_LOADS, LISTED_MOST};
+use crate::tool::classes::{LISTED_PIECES, LISTED_VERTICALS, SHOWN_CHIPS, SHOWN_DIFFERENT};
+use crate::tool::classes::{RUN_BLANKED, RUN_CHIPS, RUN_PIXEL_BITS, RUN_TICK};
 use crate::tool::input::{Input, Sort};
 use crate::tool::modelled::{self, refusal_of_log, refusal_of_snapshot, Outcome, Run};
 use crate::tool::{printed, Tool};
@@ -74,6 +73,9 @@ fn parts_of_log(chip: u8, events: &[Event]) -> Vec<&'static str> {
     let mut runs = events.split(|event| event.kind != kind::VERTICAL);
     if runs.any(|run| run.len() > 255) {
         parts.push(LISTED_VERTICALS);
+    }
+    if events.iter().any(|event| event.kind == kind::LOAD) {
+        parts.push(of_chip(&LISTED_LOADS, chip));
     }
     parts
 }
@@ -166,6 +168,9 @@ fn seen_in(run: &Run) -> Seen {
                 true => RUN_BLANKED,
                 false => RUN_TICK,
             });
+            if printed::has_pixel_bit(run.chip, answer) {
+                seen.parts.push(RUN_PIXEL_BITS);
+            }
         }
     }
     seen

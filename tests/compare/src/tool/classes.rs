@@ -33,23 +33,34 @@ impl Class {
 pub const LISTED_CHIPS: [&str; CHIPS.len()] = [
     "tool: list, then assemble: chip 1",
     "tool: list, then assemble: chip 2",
+    "tool: list, then assemble: chip 3",
 ];
 pub const LISTED_EMPTY: &str = "tool: list, then assemble: no event";
 pub const LISTED_MOST: &str = "tool: list, then assemble: as many events as there may be";
 pub const LISTED_VERTICALS: &str = "tool: list, then assemble: over 255 vertical periods in a row";
+pub const LISTED_LOADS: [&str; CHIPS.len()] = [
+    "tool: list, then assemble: loads, chip 1",
+    "tool: list, then assemble: loads, chip 2",
+    "tool: list, then assemble: loads, chip 3",
+];
 pub const LISTED_PIECES: &str = "tool: list, then assemble: in small pieces through a pipe";
 pub const RUN_CHIPS: [&str; CHIPS.len()] = [
     "tool: run and the end snapshot: chip 1",
     "tool: run and the end snapshot: chip 2",
+    "tool: run and the end snapshot: chip 3",
 ];
 pub const RUN_TICK: &str = "tool: run and the end snapshot: ticks not blanked";
 pub const RUN_BLANKED: &str = "tool: run and the end snapshot: ticks blanked";
+pub const RUN_PIXEL_BITS: &str = "tool: run and the end snapshot: ticks with EXT bits";
 pub const LONG_LOG: &str = "tool: inputs longer than any buffer: logs";
 pub const LONG_SNAPSHOT: &str = "tool: inputs longer than any buffer: snapshots";
 pub const ASSEMBLED: &str = "tool: damaged texts: assembled";
 pub const NOT_UNDERSTOOD: &str = "tool: damaged texts: not understood";
-pub const SHOWN_CHIPS: [&str; CHIPS.len()] =
-    ["tool: show and diff: chip 1", "tool: show and diff: chip 2"];
+pub const SHOWN_CHIPS: [&str; CHIPS.len()] = [
+    "tool: show and diff: chip 1",
+    "tool: show and diff: chip 2",
+    "tool: show and diff: chip 3",
+];
 pub const SHOWN_DIFFERENT: &str = "tool: show and diff: places that differ";
 pub const CURRENTS_FOUR: &str = "tool: currents: four pixels";
 pub const CURRENTS_FIVE: &str = "tool: currents: five pixels";
@@ -63,9 +74,13 @@ pub const CLASSES: &[Class] = &[
         parts: &[
             LISTED_CHIPS[0],
             LISTED_CHIPS[1],
+            LISTED_CHIPS[2],
             LISTED_EMPTY,
             LISTED_MOST,
             LISTED_VERTICALS,
+            LISTED_LOADS[0],
+            LISTED_LOADS[1],
+            LISTED_LOADS[2],
             LISTED_PIECES,
         ],
         table: Some(&LISTED),
@@ -85,7 +100,14 @@ pub const CLASSES: &[Class] = &[
         name: "tool: run and the end snapshot",
         share: 4,
         fewest: 24,
-        parts: &[RUN_CHIPS[0], RUN_CHIPS[1], RUN_TICK, RUN_BLANKED],
+        parts: &[
+            RUN_CHIPS[0],
+            RUN_CHIPS[1],
+            RUN_CHIPS[2],
+            RUN_TICK,
+            RUN_BLANKED,
+            RUN_PIXEL_BITS,
+        ],
         table: Some(&RUN),
         make: make::accepted_run,
         check: check::played_to_the_end,
@@ -102,7 +124,7 @@ pub const CLASSES: &[Class] = &[
     Class {
         name: "tool: inputs longer than any buffer",
         share: 25,
-        fewest: 16,
+        fewest: 24,
         parts: &[LONG_LOG, LONG_SNAPSHOT],
         table: Some(&LONG),
         make: make::long_input,
@@ -121,7 +143,12 @@ pub const CLASSES: &[Class] = &[
         name: "tool: show and diff",
         share: 5,
         fewest: 60,
-        parts: &[SHOWN_CHIPS[0], SHOWN_CHIPS[1], SHOWN_DIFFERENT],
+        parts: &[
+            SHOWN_CHIPS[0],
+            SHOWN_CHIPS[1],
+            SHOWN_CHIPS[2],
+            SHOWN_DIFFERENT,
+        ],
         table: Some(&SHOWN),
         make: make::two_snapshots,
         check: check::shown_and_compared,
@@ -161,8 +188,8 @@ static RUN: Table = Table {
         row(Refusal::Selector, "selector over 3"),
         row(Refusal::Address, "overlay or control address"),
         row(Refusal::Direction, "direction"),
-        row(Refusal::TickBits, "tick bits"),
-        row(Refusal::Vertical, "vertical period on a chip without one"),
+        row(Refusal::TickBits, "undefined bits of a tick or a load"),
+        row(Refusal::Vertical, "an event that the chip doesn't have"),
     ],
 };
 

@@ -5,8 +5,8 @@ use crate::damage::{LOG_FAULTS, SNAPSHOT_FAULTS};
 use crate::replay::very_long;
 use crate::tool::input::{Input, Sort};
 use crate::tool::{modelled, texts, Tool};
-use kit::{address_place, chip_of_round, largest, log_bytes, nonzero, place_count};
-use kit::{snapshot_bytes, vertical, Random, CHIPS, CURRENTS_CHIP};
+use kit::{chip_of_round, largest, log_bytes, nonzero, place_count, snapshot_bytes};
+use kit::{table_places, vertical, Random, CHIPS, CURRENTS_CHIP};
 use model::{Event, MOST_EVENTS};
 
 /// An input, or why the tool gives nothing to make it of.
@@ -181,17 +181,17 @@ fn some_places(random: &mut Random, chip: u8) -> Vec<u8> {
     }
 }
 
-/// Some places are changed, colours or what is behind them, or all there are.
+/// Some places are changed, of the table or behind it, or all there are.
 fn changed_places(random: &mut Random, chip: u8, places: &[u8]) -> Vec<u8> {
     if random.one_in(8) {
         return some_places(random, chip);
     }
     let mut changed = places.to_vec();
-    let colours = address_place(chip);
+    let table = table_places(chip);
     for _ in 0..random.pick(&[1, 1, 2, 5, 40]) {
         let place = match random.one_in(2) {
-            true => random.below(colours),
-            false => colours + random.below(place_count(chip) - colours),
+            true => random.below(table),
+            false => table + random.below(place_count(chip) - table),
         };
         changed[place] = random.up_to(largest(chip, place));
     }

@@ -2,11 +2,14 @@
 //! places.
 
 use crate::tool::modelled::{Currents, Run};
-use kit::{address_place, is_tick, p1};
+use kit::{entry_places, is_tick, p1, p3, table_places};
 
 /// The words for the kinds of events, by their numbers.
-const KINDS: [&str; 5] = ["write", "read", "tick", "vertical", "save"];
-const COMPONENTS: [&str; 3] = ["red", "green", "blue"];
+const KINDS: [&str; 6] = ["write", "read", "tick", "vertical", "save", "load"];
+/// The words for the places of an entry, as many as the chip's entries have.
+const PARTS: [&str; 5] = ["red", "green", "blue", "EXT", "REP"];
+/// The first of them are the colour.
+const COLOUR: usize = 3;
 
 /// A line that must be there.
 pub enum Line {
@@ -68,12 +71,34 @@ pub fn is_blanked(answer: &[u8]) -> bool {
     answer[2] & 1 == 0
 }
 
+/// The bits that a tick's pixels have beside their colours: chip 3's EXT, from
+/// bit 1 of byte 2 on.
+fn pixel_bits(chip: u8, answer: &[u8]) -> Vec<u8> {
+    match chip {
+        1 | 2 => vec![],
+        3 => (1..=answer[1]).map(|bit| answer[2] >> bit & 1).collect(),
+        _ => panic!("the pixels of chip {chip} aren't listed"),
+    }
+}
+
+/// Whether one of them is 1.
+pub fn has_pixel_bit(chip: u8, answer: &[u8]) -> bool {
+    pixel_bits(chip, answer).contains(&1)
+}
+
 /// By a tick's answer: byte 1 the pixels, byte 2 the levels, then the colours.
-fn tick_line(number: usize, answer: &[u8]) -> String {
+fn tick_line(number: usize, chip: u8, answer: &[u8]) -> String {
     let blanked = if is_blanked(answer) { ", blanked" } else { "" };
     let mut line = format!("event {number}, tick{blanked}:");
     for codes in answer[3..].chunks(3).take(answer[1].into()) {
         line += &format!(" {}", colour(codes));
+    }
+    let bits = pixel_bits(chip, answer);
+    if !bits.is_empty() {
+        line += ", EXT";
+    }
+    for bit in bits {
+        line += &format!(" {bit}");
     }
     line
 }
@@ -89,7 +114,7 @@ pub fn of_run(run: &Run) -> Vec<Line> {
             lines.push(Line::Start(start));
             refused += 1;
         } else if is_tick(event) {
-            lines.push(Line::Whole(tick_line(number, answer)));
+            lines.push(Line::Whole(tick_line(number, run.chip, answer)));
             ticks += 1;
         }
     }
@@ -101,49 +126,59 @@ pub fn of_run(run: &Run) -> Vec<Line> {
     lines
 }
 
-/// How many of a chip's places are colours: they come first, three for each
-/// entry.
-fn colour_places(chip: u8) -> usize {
-    address_place(chip)
-}
-
 fn entry_name(chip: u8, entry: usize) -> String {
     const OVERLAYS: usize = p1::OVERLAY_0 / 3;
     match chip {
         1 if entry >= OVERLAYS => format!("overlay {}", entry - OVERLAYS),
         1 => format!("palette {entry:02X}h"),
         2 => format!("CLT {entry:02X}h"),
+        3 => format!("register {entry}"),
         _ => panic!("chip {chip} has no names"),
     }
 }
 
-/// The words of the lines of `show` that have a colour: of the entries that
-/// aren't black.
+/// The words of the lines of `show` that have a colour: chip 3's colour before,
+/// and the entries that aren't all 0.
 pub fn of_colours(chip: u8, places: &[u8]) -> Vec<Line> {
-    let entries = places[..colour_places(chip)].chunks(3).enumerate();
-    entries
-        .filter(|(_, codes)| codes.iter().any(|&code| code != 0))
-        .map(|(entry, codes)| {
-            let name = entry_name(chip, entry);
-            Line::Whole(format!("{name} {}", colour(codes)))
-        })
-        .collect()
+    let mut lines = Vec::new();
+    if chip == 3 {
+        let before = colour(&places[p3::COLOUR_BEFORE..]);
+        lines.push(Line::Whole(format!("colour before {before}")));
+    }
+    let entries = places[..table_places(chip)].chunks(entry_places(chip));
+    for (entry, values) in entries.enumerate() {
+        if values.iter().any(|&value| value != 0) {
+            lines.push(Line::Whole(entry_line(chip, entry, values)));
+        }
+    }
+    lines
+}
+
+/// An entry's colour and, behind it, its other parts.
+fn entry_line(chip: u8, entry: usize, values: &[u8]) -> String {
+    let mut line = format!("{} {}", entry_name(chip, entry), colour(values));
+    for (part, value) in PARTS.iter().zip(values).skip(COLOUR) {
+        line += &format!(", {part} {value}");
+    }
+    line
 }
 
 /// The words of what `diff` prints of two states of a chip: a line for each
-/// place that differs, the value in hexadecimal or, behind the colours, in
-/// decimal.
+/// place that differs. A colour's values are in hexadecimal, the other parts of
+/// an entry in decimal, and what is behind the entries in either.
 pub fn of_differences(chip: u8, old: &[u8], new: &[u8]) -> Vec<Line> {
     let both = old.iter().zip(new).enumerate();
     both.filter(|(_, (old, new))| old != new)
         .map(|(place, (old, new))| {
             let hexadecimal = format!(" {old:02X}h -> {new:02X}h");
-            if place < colour_places(chip) {
-                let name = entry_name(chip, place / 3);
-                Line::Whole(format!("{name} {}{hexadecimal}", COMPONENTS[place % 3]))
-            } else {
-                Line::End([hexadecimal, format!(" {old} -> {new}")])
+            let decimal = format!(" {old} -> {new}");
+            if place >= table_places(chip) {
+                return Line::End([hexadecimal, decimal]);
             }
+            let (entry, part) = (place / entry_places(chip), place % entry_places(chip));
+            let values = if part < COLOUR { hexadecimal } else { decimal };
+            let name = entry_name(chip, entry);
+            Line::Whole(format!("{name} {}{values}", PARTS[part]))
         })
         .collect()
 }

@@ -151,3 +151,51 @@ pub fn claimed_count(log: &[u8]) -> usize {
         _ => 0,
     }
 }
+
+#[cfg(test)]
+mod tests {
+    use super::Case;
+    use crate::compared::Compared;
+    use crate::report::Shown;
+    use kit::{load, log_bytes, read, tick, vertical, write, Random};
+    use model::Event;
+
+    fn shown(chip: u8, events: &[Event]) -> Vec<Shown> {
+        let log = log_bytes(chip, events);
+        let case = Case::exact(vec![chip, 0, 0], log, &mut Random::seeded(1));
+        case.shown(&case.run_model())
+    }
+
+    /// With the byte that no event of chips 2 and 3 uses.
+    fn odd(mut event: Event) -> Event {
+        event.operand[3] = 1;
+        event
+    }
+
+    #[test]
+    fn an_event_that_a_chip_lacks_is_shown_with_what_others_refuse() {
+        assert_eq!(shown(3, &[load(15, 15)]), [(0, 0)]);
+        assert_eq!(shown(3, &[vertical()]), [(0, 0), (5, 0)]);
+        // By chip 1 and by chip 2.
+        let selector = [(0, 0), (5, 0), (5, 1), (5, 1)];
+        assert_eq!(shown(3, &[write(4, 0)]), selector);
+        assert_eq!(shown(3, &[read(255)]), selector);
+        assert_eq!(shown(3, &[read(1)]), [(0, 0), (5, 0), (5, 3)]);
+        assert_eq!(shown(3, &[write(2, 0)]), [(0, 0), (5, 0), (5, 2)]);
+        assert_eq!(shown(1, &[load(0, 16)]), [(0, 0), (5, 0), (5, 4)]);
+        assert_eq!(shown(2, &[load(0, 15)]), [(0, 0), (5, 0)]);
+    }
+
+    #[test]
+    fn the_first_event_at_fault_is_shown_with_what_is_behind() {
+        let unused = [(15, 0), (15, 5)];
+        assert_eq!(shown(3, &[load(0, 0), odd(write(4, 0))]), unused);
+        assert_eq!(shown(2, &[odd(load(16, 0))]), unused);
+        assert_eq!(shown(3, &[odd(load(16, 0))]), [(15, 0), (15, 4)]);
+        let level = tick([0, 0, 0, 0, 0, 0, 0, 2]);
+        assert_eq!(shown(2, &[odd(level)]), [(15, 0), (15, 4)]);
+        let kind = |kind| Event { kind, ..level };
+        assert_eq!(shown(3, &[kind(6), odd(level)]), [(14, 0), (14, 15)]);
+        assert_eq!(shown(3, &[odd(level), kind(6)]), [(15, 0), (15, 4)]);
+    }
+}

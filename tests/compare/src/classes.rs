@@ -605,3 +605,84 @@ fn empty_strings(random: &mut Random) -> Vec<Case> {
     }
     cases
 }
+
+#[cfg(test)]
+mod tests {
+    //! What the sweeps and the chains come to, by the model alone: they need no
+    //! library.
+
+    use super::{all_counters, chain_of_rep, every_count, every_kind_and_byte};
+    use super::{every_place_count, every_selector, lively};
+    use crate::compared::Compared;
+    use kit::{is_tick, p3, place_values, Random, ANSWER_BYTES};
+    use std::collections::BTreeSet;
+
+    #[test]
+    fn each_chip_refuses_all_that_it_can() {
+        let random = &mut Random::seeded(1);
+        let sweeps = [every_selector, every_count, every_kind_and_byte];
+        let mut seen = BTreeSet::new();
+        for case in sweeps.iter().flat_map(|sweep| sweep(random)) {
+            let outcome = case.run_model();
+            if outcome.result >> 16 == 0 {
+                let answers = outcome.answers().chunks(ANSWER_BYTES);
+                seen.extend(answers.map(|answer| (case.log[0], answer[0])));
+            }
+        }
+        let chip_1 = [0, 1, 2, 4, 5].map(|refusal| (1, refusal));
+        let chip_2 = [0, 1, 3, 4, 5].map(|refusal| (2, refusal));
+        let chip_3 = [0, 4, 5].map(|refusal| (3, refusal));
+        let all = [&chip_1[..], &chip_2, &chip_3].concat();
+        assert!(seen.into_iter().eq(all));
+    }
+
+    #[test]
+    fn counters_have_every_value() {
+        let counts = [1, 2, 3].map(|chip| all_counters(chip).len());
+        assert_eq!(counts, [256 * 3, 256 * 3, 32]);
+        let snapshot = lively(&mut Random::seeded(1), 3, &[31, 2]);
+        assert!(place_values(&snapshot).contains(&(80, 31)));
+    }
+
+    #[test]
+    fn one_place_more_than_the_chip_has_is_22() {
+        let cases = every_place_count(&mut Random::seeded(1));
+        let refusals = cases.iter().map(|case| case.run_model().result >> 16);
+        assert!(refusals.eq([0, 22, 24, 0, 22, 24, 0, 22, 24]));
+        let lengths = cases[6..].iter().map(|case| case.snapshot.len());
+        assert!(lengths.eq([3 + 3 * 86, 3 + 3 * 87, 3 + 3 * 86]));
+    }
+
+    /// Ticks in which both pixels repeat, one behind the other, and those of them
+    /// that show no black.
+    #[test]
+    fn chains_of_rep_are_long_and_of_both_sorts() {
+        let random = &mut Random::seeded(1);
+        let (mut coloured, mut black) = (0, 0);
+        for _ in 0..50 {
+            let case = chain_of_rep(random);
+            let mut state = model::restore(&case.snapshot).state;
+            let mut chain = 0;
+            for event in model::read_log(&case.log).unwrap().events {
+                let places = state.places();
+                let (answer, next) = model::event(&state, event.kind, &event.operand);
+                state = next;
+                if !is_tick(&event) {
+                    continue;
+                }
+                let repeats = event.operand[..2].iter().all(|&pixel| {
+                    let register = p3::REGISTER_PLACES * usize::from(pixel);
+                    places[register + p3::REP] == 1
+                });
+                chain = if repeats { chain + 1 } else { 0 };
+                if chain >= 3 && answer[2] & 1 == 1 {
+                    match answer[3..9] == [0; 6] {
+                        true => black += 1,
+                        false => coloured += 1,
+                    }
+                }
+            }
+        }
+        assert!(coloured > 50 && black > 50, "{coloured}, {black}");
+    }
+}

@@ -13,7 +13,7 @@ use crate::case::Case;
 use crate::compared::Compared;
 use kit::{before_painting, free_shuffle, hexadecimal, log_bytes, painting_shuffle};
 use kit::{is_access, is_display, is_save, is_tick, only, save, with_saves, Random, Sort};
-use kit::{place_values, places_that_ticks_move};
+use kit::{nonzero, p3, place_values, places_that_ticks_move, snapshot_bytes, tick};
 use model::{painting_accesses, Event, ANSWER_BYTES, END_BUFFER_BYTES, MOST_EVENTS};
 
 /// A sort of pair of logs.
@@ -54,6 +54,11 @@ pub const SHUFFLES: &[Shuffle] = &[
         name: "demand 3: painting kept, chip 3",
         pairs: 60,
         make: |random| painting_kept(random, 3),
+    },
+    Shuffle {
+        name: "demand 3: the last tick past the last second load, chip 3",
+        pairs: 20,
+        make: tick_past_load,
     },
     Shuffle {
         name: "demand 3: saves moved",
@@ -119,6 +124,22 @@ fn painting_kept(random: &mut Random, chip: u8) -> Pair {
     let painting = painting(chip, &snapshot, &events);
     let shuffled = painting_shuffle(random, &events, &painting);
     pair(random, chip, snapshot, events, shuffled)
+}
+
+/// Chip 3: display events, then a register's two loads and a tick that shows it,
+/// behind the second load or before it.
+fn tick_past_load(random: &mut Random) -> Pair {
+    let register = random.up_to(15);
+    let mut places = random.places(3);
+    places[p3::LOAD_POSITION] = 2 * register;
+    let snapshot = snapshot_bytes(3, &nonzero(&places));
+    let count = random.below(6);
+    let before: Vec<Event> = (0..count).map(|_| random.display(3)).collect();
+    let [first, second] = [random.load(), random.load()];
+    let shown = tick([register, register, 0, 0, 0, 0, 0, 1]);
+    let one = [&before[..], &[first, second, shown]].concat();
+    let two = [&before[..], &[first, shown, second]].concat();
+    pair(random, 3, snapshot, one, two)
 }
 
 /// As many saves in both logs, at other places.
@@ -229,7 +250,7 @@ impl Pair {
         if one.accesses != two.accesses {
             return Err("accesses that belong together are answered differently".into());
         }
-        if self.settled(&one.end) != self.settled(&two.end) {
+        if settled(self.chip, &one.end) != settled(self.chip, &two.end) {
             return Err("the ends differ at a place that ticks don't move".into());
         }
         let displays = |events: &[Event]| {
@@ -250,14 +271,6 @@ impl Pair {
             ticks_differ,
             ends_differ,
         })
-    }
-
-    /// What an end snapshot has at the places that ticks don't move.
-    fn settled(&self, end: &[u8]) -> Vec<(u16, u8)> {
-        let moved = places_that_ticks_move(self.chip);
-        let mut values = place_values(end);
-        values.retain(|&(place, _)| !moved.contains(&usize::from(place)));
-        values
     }
 
     /// A smaller pair that still fails: events are taken out of both logs one
@@ -295,10 +308,65 @@ impl Pair {
     }
 }
 
+/// What an end snapshot has at the places that ticks don't move.
+fn settled(chip: u8, end: &[u8]) -> Vec<(u16, u8)> {
+    let moved = places_that_ticks_move(chip);
+    let mut values = place_values(end);
+    values.retain(|&(place, _)| !moved.contains(&usize::from(place)));
+    values
+}
+
 /// Takes the event with this number among its sort out of a log.
 fn remove(events: &mut Vec<Event>, sort: Sort, number: usize) {
     let mut indices = (0..events.len()).filter(|&index| sort(&events[index]));
     if let Some(index) = indices.nth(number) {
         events.remove(index);
+    }
+}
+
+#[cfg(test)]
+mod tests {
+    use super::{settled, tick_past_load};
+    use kit::{log_bytes, place_values, snapshot_bytes, Random};
+    use model::{painting_accesses, ANSWER_BYTES, END_BUFFER_BYTES};
+
+    #[test]
+    fn only_chip_3_has_places_that_ticks_move() {
+        let pairs = [(0, 1), (80, 2), (82, 3), (83, 4), (85, 5)];
+        for chip in [1, 2] {
+            assert_eq!(settled(chip, &snapshot_bytes(chip, &pairs)), pairs);
+        }
+        assert_eq!(settled(3, &snapshot_bytes(3, &pairs)), pairs[..3]);
+    }
+
+    #[test]
+    fn place_values_are_those_of_the_snapshot() {
+        let pairs = [(0, 1), (5, 2), (788, 3)];
+        assert_eq!(place_values(&snapshot_bytes(1, &pairs)), pairs);
+        assert_eq!(place_values(&[2, 0, 0]), []);
+        assert_eq!(place_values(&[]), []);
+    }
+
+    /// By the model: the moved tick shows another colour, and so may the end.
+    #[test]
+    fn a_tick_moved_past_a_load_often_changes_the_end() {
+        let random = &mut Random::seeded(7);
+        let mut differ = 0;
+        for _ in 0..100 {
+            let pair = tick_past_load(random);
+            let end = |events| {
+                let log = log_bytes(pair.chip, events);
+                let mut end = vec![0; END_BUFFER_BYTES];
+                let mut answers = vec![0; ANSWER_BYTES * events.len()];
+                let length = model::run(&pair.snapshot, &log, &mut answers, &mut end);
+                assert_eq!(painting_accesses(&pair.snapshot, &log).unwrap().len(), 1);
+                end.truncate(length as usize);
+                end
+            };
+            let (one, two) = (end(&pair.one), end(&pair.two));
+            assert_eq!(settled(3, &one), settled(3, &two));
+            differ += usize::from(one != two);
+        }
+        assert!(differ > 40, "{differ} of 100");
     }
 }

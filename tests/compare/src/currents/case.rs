@@ -168,7 +168,8 @@ impl Compared for Case {
 mod tests {
     use super::{Case, OUT};
     use crate::compared::Compared;
-    use kit::{nonzero, p1, snapshot_bytes, Random, CURRENTS_BYTES, CURRENTS_CHIP, END_BYTES};
+    use kit::{nonzero, other_chips, p1, snapshot_bytes, Random};
+    use kit::{CURRENTS_BYTES, CURRENTS_CHIP, END_BYTES};
 
     /// Pixel A's green in the answer.
     const GREEN: usize = 4;
@@ -217,13 +218,16 @@ mod tests {
         assert_eq!(shown(&[1, 0, 0], &odd, (48, 0)), [(31, 0), (31, 4)]);
         assert_eq!(shown(&[1, 0, 0], &odd, (47, 0)), [(30, 0), (30, 31)]);
         assert_eq!(shown(&[1, 0, 0], &[], (47, 0)), [(13, 0), (13, 30)]);
-        assert_eq!(shown(&[2, 0, 0], &[], ENOUGH), [(40, 0), (40, 13)]);
-        assert_eq!(shown(&[2, 0, 0], &[0; 8], ENOUGH), [(40, 0)]);
-        assert_eq!(shown(&[2, 1, 0], &[], ENOUGH), [(23, 0), (23, 40)]);
+        for chip in other_chips(CURRENTS_CHIP) {
+            assert_eq!(shown(&[chip, 0, 0], &[], ENOUGH), [(40, 0), (40, 13)]);
+            assert_eq!(shown(&[chip, 0, 0], &[0; 8], ENOUGH), [(40, 0)]);
+            assert_eq!(shown(&[chip, 1, 0], &[], ENOUGH), [(23, 0), (23, 40)]);
+        }
         assert_eq!(shown(&[1, 1, 0], &[], ENOUGH), [(23, 0), (23, 13)]);
+        // With chip 1, then with each of the others.
         assert_eq!(
             shown(&[9, 0, 0], &[], ENOUGH),
-            [(21, 0), (21, 13), (21, 40)]
+            [(21, 0), (21, 13), (21, 40), (21, 40)]
         );
     }
 }

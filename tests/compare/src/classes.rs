@@ -1,11 +1,13 @@
 //! The classes of runs. Each makes cases; a case decides nothing about what is
 //! right, the model does.
 
+mod tms34070;
+
 use crate::case::Case;
 use crate::compared::{class, Class, Sweep};
 use crate::damage::{damage_length, damaged_log, damaged_snapshot};
 use crate::damage::{several_faults, two_indexed_faults, LOG_FAULTS, SNAPSHOT_FAULTS};
-use kit::{c, load, p3, read, save, tick, vertical, write, Random, CHIPS};
+use kit::{c, read, save, tick, vertical, write, Random, CHIPS};
 use kit::{counter_places, largest, log_bytes, nonzero, place_count, snapshot_bytes};
 use kit::{used_bytes, LOG_HEADER_BYTES, OLDER_MOST_EVENTS};
 use model::{kind, Event, ANSWER_BYTES, END_BUFFER_BYTES, MOST_EVENTS};
@@ -16,8 +18,12 @@ pub const RANDOM: &[Class<Case>] = &[
     class("logs, chip 3", 700, |random| any_log(random, 3)),
     class("one event on any state", 3000, one_event),
     class("ticks through the blink cycle", 40, blink_cycle),
-    class("chains of REP", 120, chain_of_rep),
-    class("events between a register's two loads", 150, between_loads),
+    class("chains of REP", 120, tms34070::chain_of_rep),
+    class(
+        "events between a register's two loads",
+        150,
+        tms34070::between_loads,
+    ),
     class("colours round the end of the table", 150, round_the_end),
     class("saves between all other events", 150, saves_between),
     class("full snapshots", 60, full_snapshot),
@@ -79,67 +85,6 @@ fn blink_cycle(random: &mut Random) -> Case {
     }
     let snapshot = random.snapshot(1);
     Case::exact(snapshot, log_bytes(1, &events), random)
-}
-
-/// Chip 3: ticks that mostly repeat, now and then DATEN low, loads or a save
-/// between them.
-fn chain_of_rep(random: &mut Random) -> Case {
-    let mut places = random.full_places(3);
-    let rare = random.pick(&[3, 10, 40]);
-    for register in places[..p3::LOAD_POSITION].chunks_exact_mut(p3::REGISTER_PLACES) {
-        register[p3::REP] = u8::from(!random.one_in(rare));
-    }
-    let mut events = Vec::new();
-    for _ in 0..30 {
-        match random.below(12) {
-            0 => events.push(tick([random.up_to(15), random.up_to(15), 0, 0, 0, 0, 0, 0])),
-            1 => events.extend([random.repeating_load(), random.load()]),
-            2 => events.push(save()),
-            _ => events.push(shown(random.up_to(15), random.up_to(15))),
-        }
-    }
-    let snapshot = snapshot_bytes(3, &nonzero(&places));
-    Case::exact(snapshot, log_bytes(3, &events), random)
-}
-
-/// A chip 3 tick with DATEN high.
-fn shown(da: u8, db: u8) -> Event {
-    tick([da, db, 0, 0, 0, 0, 0, 1])
-}
-
-/// Chip 3: the two loads of each of some registers, with ticks that show it and
-/// the next one, saves and refused events before, between and behind them.
-fn between_loads(random: &mut Random) -> Case {
-    let mut places = random.places(3);
-    let register = random.up_to(15);
-    places[p3::LOAD_POSITION] = 2 * register;
-    let mut events = Vec::new();
-    for number in 0..3 {
-        let register = (register + number) % 16;
-        for _ in 0..2 {
-            events.extend(between(random, register));
-            events.push(random.load());
-        }
-        events.extend(between(random, register));
-    }
-    let snapshot = snapshot_bytes(3, &nonzero(&places));
-    Case::exact(snapshot, log_bytes(3, &events), random)
-}
-
-/// Up to two events that leave the load position as it is.
-fn between(random: &mut Random, register: u8) -> Vec<Event> {
-    let next = (register + 1) % 16;
-    let events = [
-        shown(register, next),
-        shown(next, register),
-        save(),
-        random.odd_load(),
-        random.access(),
-        random.odd_tick(3),
-        vertical(),
-    ];
-    let count = random.below(3);
-    (0..count).map(|_| random.pick(&events)).collect()
 }
 
 /// Long runs of colour accesses or loads across the last entry.
@@ -300,7 +245,7 @@ pub const SWEEPS: &[Sweep<Case>] = &[
     },
     Sweep {
         name: "every pair of registers, shown and loaded",
-        cases: every_pair_of_registers,
+        cases: tms34070::every_pair_of_registers,
     },
     Sweep {
         name: "every place: largest value, one more, 0",
@@ -446,30 +391,6 @@ fn pins_and_faults(random: &mut Random) -> Vec<Case> {
     cases
 }
 
-/// Chip 3, from every load position: a register's colour, EXT and REP loaded,
-/// with a tick of every pair of registers that has it between the loads.
-fn every_pair_of_registers(random: &mut Random) -> Vec<Case> {
-    let mut cases = Vec::new();
-    for position in 0..=largest(3, p3::LOAD_POSITION) {
-        let own = position / 2;
-        for other in 0..16 {
-            for attributes in 0..=3 {
-                let events = [
-                    shown(own, other),
-                    load(random.up_to(15), attributes),
-                    shown(other, own),
-                    load(random.up_to(15), random.up_to(15)),
-                    shown(own, other),
-                    shown(other, own),
-                ];
-                let snapshot = lively(random, 3, &[position]);
-                cases.push(Case::exact(snapshot, log_bytes(3, &events), random));
-            }
-        }
-    }
-    cases
-}
-
 fn every_place(random: &mut Random) -> Vec<Case> {
     let mut cases = Vec::new();
     for snapshot in places_alone() {
@@ -608,13 +529,12 @@ fn empty_strings(random: &mut Random) -> Vec<Case> {
 
 #[cfg(test)]
 mod tests {
-    //! What the sweeps and the chains come to, by the model alone: they need no
-    //! library.
+    //! What the sweeps come to, by the model alone: they need no library.
 
-    use super::{all_counters, chain_of_rep, every_count, every_kind_and_byte};
-    use super::{every_place_count, every_selector, lively};
+    use super::{all_counters, every_count, every_kind_and_byte, every_place_count};
+    use super::{every_selector, lively};
     use crate::compared::Compared;
-    use kit::{is_tick, p3, place_values, Random, ANSWER_BYTES};
+    use kit::{place_values, Random, ANSWER_BYTES};
     use std::collections::BTreeSet;
 
     #[test]
@@ -651,38 +571,5 @@ mod tests {
         assert!(refusals.eq([0, 22, 24, 0, 22, 24, 0, 22, 24]));
         let lengths = cases[6..].iter().map(|case| case.snapshot.len());
         assert!(lengths.eq([3 + 3 * 86, 3 + 3 * 87, 3 + 3 * 86]));
-    }
-
-    /// Ticks in which both pixels repeat, one behind the other, and those of them
-    /// that show no black.
-    #[test]
-    fn chains_of_rep_are_long_and_of_both_sorts() {
-        let random = &mut Random::seeded(1);
-        let (mut coloured, mut black) = (0, 0);
-        for _ in 0..50 {
-            let case = chain_of_rep(random);
-            let mut state = model::restore(&case.snapshot).state;
-            let mut chain = 0;
-            for event in model::read_log(&case.log).unwrap().events {
-                let places = state.places();
-                let (answer, next) = model::event(&state, event.kind, &event.operand);
-                state = next;
-                if !is_tick(&event) {
-                    continue;
-                }
-                let repeats = event.operand[..2].iter().all(|&pixel| {
-                    let register = p3::REGISTER_PLACES * usize::from(pixel);
-                    places[register + p3::REP] == 1
-                });
-                chain = if repeats { chain + 1 } else { 0 };
-                if chain >= 3 && answer[2] & 1 == 1 {
-                    match answer[3..9] == [0; 6] {
-                        true => black += 1,
-                        false => coloured += 1,
-                    }
-                }
-            }
-        }
-        assert!(coloured > 50 && black > 50, "{coloured}, {black}");
     }
 }

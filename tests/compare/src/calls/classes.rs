@@ -536,8 +536,38 @@ fn in_pieces(random: &mut Random) -> Vec<Batch> {
 
 #[cfg(test)]
 mod tests {
-    use super::every_code_shown;
+    //! What the classes come to, by the model alone: they need no program.
+
+    use super::{every_code_shown, RANDOM, SWEEPS};
+    use crate::calls::record::{Record, TABLES};
+    use crate::report::Shown;
+    use kit::Random;
     use std::collections::BTreeSet;
+
+    /// Of each class as many as three rounds have, and all of the sweeps.
+    fn records(random: &mut Random) -> Vec<Record> {
+        let mut records = Vec::new();
+        for class in RANDOM {
+            records.extend((0..3 * class.records).map(|number| (class.make)(random, number)));
+        }
+        for sweep in SWEEPS {
+            let batches = (sweep.batches)(random).into_iter();
+            records.extend(batches.flat_map(|batch| batch.records));
+        }
+        records
+    }
+
+    #[test]
+    fn the_records_show_what_the_tables_list() {
+        let records = records(&mut Random::seeded(1));
+        for table in TABLES {
+            let of_table = |record: &&Record| record.table().title == table.title;
+            let records = records.iter().filter(of_table);
+            let shown: BTreeSet<Shown> = records.flat_map(Record::shown).collect();
+            let listed: BTreeSet<Shown> = table.rows.iter().map(|row| row.shown).collect();
+            assert_eq!(shown, listed, "{}", table.title);
+        }
+    }
 
     #[test]
     fn the_sample_of_codes_has_each_in_each_colour() {

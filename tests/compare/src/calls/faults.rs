@@ -174,3 +174,43 @@ pub fn spoil(random: &mut Random, chip: u8, places: &mut [u8]) {
         places[place] = random.pick(&[first, u8::MAX, any]);
     }
 }
+
+#[cfg(test)]
+mod tests {
+    use super::{chips_with, planted, planted_with_unused, Planted, OF_THE_CHIP, OF_THE_FORM};
+    use crate::calls::record::Record;
+    use kit::Random;
+    use model::Refusal;
+    use std::collections::BTreeSet;
+
+    fn first_refusal(planted: Planted) -> (u8, u64) {
+        let Planted { state, event } = planted;
+        let chip = state.chip;
+        let shown = Record::Event { state, event }.shown();
+        (chip, shown[0].0)
+    }
+
+    #[test]
+    fn what_is_planted_comes_first_on_each_chip_that_has_it() {
+        let random = &mut Random::seeded(1);
+        for fault in OF_THE_CHIP.into_iter().chain(OF_THE_FORM) {
+            let seen = (0..200).map(|_| first_refusal(planted(random, fault)));
+            let seen: BTreeSet<(u8, u64)> = seen.collect();
+            let right = chips_with(fault)
+                .iter()
+                .map(|&chip| (chip, fault.number().into()));
+            assert!(seen.into_iter().eq(right), "{fault:?}");
+        }
+    }
+
+    #[test]
+    fn an_unused_byte_comes_before_what_is_planted() {
+        let random = &mut Random::seeded(2);
+        for fault in OF_THE_CHIP {
+            for _ in 0..50 {
+                let (_, first) = first_refusal(planted_with_unused(random, fault));
+                assert_eq!(first, Refusal::UnusedByte.number().into(), "{fault:?}");
+            }
+        }
+    }
+}

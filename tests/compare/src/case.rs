@@ -38,20 +38,40 @@ impl Case {
     }
 }
 
-/// The refusals that need no more than a chip and an event.
-const OF_AN_EVENT: [Refusal; 3] = [Refusal::Vertical, Refusal::Kind, Refusal::UnusedByte];
+/// The refusals that an event of the log gets whatever the chip's state: in its
+/// answer, and returned.
+const IN_AN_ANSWER: Refusal = Refusal::Vertical;
+const RETURNED: [Refusal; 2] = [Refusal::Kind, Refusal::UnusedByte];
 
 impl Case {
-    /// What a refusal that this event brings to any state of the log's chip hides.
-    fn behind(&self, refusal: u64, event: Event) -> Vec<Shown> {
-        let is = |fault: &Refusal| refusal == u64::from(fault.number());
-        if !OF_AN_EVENT.iter().any(is) {
-            return Vec::new();
-        }
+    /// What the event of the log shows on a fresh chip.
+    fn shown_by(&self, event: Event) -> Vec<Shown> {
         let state = Whole::fresh(self.log[0]);
-        let mut shown = Record::Event { state, event }.shown();
-        shown.retain(|&(first, next)| first == refusal && next != 0);
+        Record::Event { state, event }.shown()
+    }
+
+    fn shown_in_answers(&self, agreed: &Outcome) -> Vec<Shown> {
+        let mut shown = Vec::new();
+        let answers = agreed.answers().chunks(ANSWER_BYTES);
+        for (answer, event) in answers.zip(events(&self.log)) {
+            match answer[0] {
+                0 => {}
+                refusal if refusal == IN_AN_ANSWER.number() => shown.extend(self.shown_by(event)),
+                refusal => shown.push((refusal.into(), 0)),
+            }
+        }
         shown
+    }
+
+    /// By the first event that is at fault.
+    fn shown_by_refusal(&self, returned: u64) -> Vec<Shown> {
+        let is = |fault: &Refusal| u64::from(fault.number()) == returned;
+        if !RETURNED.iter().any(is) {
+            return vec![(returned, 0)];
+        }
+        let mut shown = events(&self.log).map(|event| self.shown_by(event));
+        let first = shown.find(|shown| shown[0].0 == returned);
+        first.expect("an event is at fault")
     }
 }
 
@@ -100,27 +120,12 @@ impl Compared for Case {
     }
 
     /// The refusal that is returned, and those in the answers; and with each that
-    /// an event's kind or its unused bytes bring, each that would come next.
+    /// an event gets on any state, each that would come next.
     fn shown(&self, agreed: &Outcome) -> Vec<Shown> {
-        let returned = agreed.result >> 16;
-        let mut shown = vec![(returned, 0)];
-        if returned == 0 {
-            let answers = agreed.answers().chunks(ANSWER_BYTES);
-            let played = answers.zip(events(&self.log));
-            for (answer, event) in played.filter(|(answer, _)| answer[0] != 0) {
-                shown.push((answer[0].into(), 0));
-                shown.extend(self.behind(answer[0].into(), event));
-            }
-        } else {
-            let behind = |event| self.behind(returned, event);
-            shown.extend(
-                events(&self.log)
-                    .map(behind)
-                    .find(|next| !next.is_empty())
-                    .unwrap_or_default(),
-            );
+        match agreed.result >> 16 {
+            0 => [vec![(0, 0)], self.shown_in_answers(agreed)].concat(),
+            returned => self.shown_by_refusal(returned),
         }
-        shown
     }
 
     fn shrunk(&self, tries: &mut usize) -> Case {
@@ -157,7 +162,7 @@ mod tests {
     use super::Case;
     use crate::compared::Compared;
     use crate::report::Shown;
-    use kit::{load, log_bytes, read, tick, vertical, write, Random};
+    use kit::{load, log_bytes, read, save, tick, vertical, write, Random};
     use model::Event;
 
     fn shown(chip: u8, events: &[Event]) -> Vec<Shown> {
@@ -197,5 +202,6 @@ mod tests {
         let kind = |kind| Event { kind, ..level };
         assert_eq!(shown(3, &[kind(6), odd(level)]), [(14, 0), (14, 15)]);
         assert_eq!(shown(3, &[odd(level), kind(6)]), [(15, 0), (15, 4)]);
+        assert_eq!(shown(3, &[odd(save()), odd(level)]), [(15, 0)]);
     }
 }

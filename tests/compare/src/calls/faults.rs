@@ -107,7 +107,7 @@ fn refused_event(random: &mut Random, chip: u8, places: &mut [u8], fault: Refusa
                 _ => write(rs::CLT, random.byte()),
             }
         }
-        Refusal::TickBits if chip == 3 && random.one_in(2) => random.odd_load(),
+        Refusal::TickBits if takes_loads(chip) && random.one_in(2) => random.odd_load(),
         Refusal::TickBits => random.odd_tick(chip),
         Refusal::Vertical => not_on(random, chip),
         Refusal::Kind => odd_kind(random, chip),
@@ -118,6 +118,10 @@ fn refused_event(random: &mut Random, chip: u8, places: &mut [u8], fault: Refusa
         }
         _ => panic!("{fault:?} is no fault of an event"),
     }
+}
+
+fn takes_loads(chip: u8) -> bool {
+    !kinds_not_on(chip).contains(&kind::LOAD)
 }
 
 /// An event of a kind that the chip doesn't have; another chip would refuse some

@@ -285,10 +285,13 @@ pub fn lively(random: &mut Random, chip: u8, counters: &[u8]) -> Vec<u8> {
     snapshot_bytes(chip, &nonzero(&places))
 }
 
-/// One event on a lively state.
-fn on_lively(random: &mut Random, chip: u8, event: Event) -> Case {
-    let snapshot = lively(random, chip, &[0, 0]);
-    Case::exact(snapshot, log_bytes(chip, &[event]), random)
+/// One event on lively states, with counters of 0 and of 1: a load is the first
+/// or the second of a register.
+fn on_lively(random: &mut Random, chip: u8, event: Event) -> [Case; 2] {
+    [0, 1].map(|counter| {
+        let snapshot = lively(random, chip, &[counter; 2]);
+        Case::exact(snapshot, log_bytes(chip, &[event]), random)
+    })
 }
 
 fn every_selector(random: &mut Random) -> Vec<Case> {
@@ -349,27 +352,25 @@ fn every_kind_and_byte(random: &mut Random) -> Vec<Case> {
     for chip in CHIPS {
         for byte in 0..=255 {
             let operand = [0; 8];
-            cases.push(on_lively(
-                random,
-                chip,
-                Event {
-                    kind: byte,
-                    operand,
-                },
-            ));
-            for kind in [kind::TICK, kind::LOAD] {
-                for &at in used_bytes(chip, kind) {
-                    let mut event = match kind {
-                        kind::TICK => random.tick(chip),
-                        _ => random.load(),
-                    };
-                    event.operand[at] = byte;
-                    cases.push(on_lively(random, chip, event));
-                }
+            let mut events = vec![Event {
+                kind: byte,
+                operand,
+            }];
+            for &at in used_bytes(chip, kind::TICK) {
+                events.push(with_byte(random.tick(chip), at, byte));
             }
+            for &at in used_bytes(chip, kind::LOAD) {
+                events.push(with_byte(random.load(), at, byte));
+            }
+            cases.extend((events.into_iter()).flat_map(|event| on_lively(random, chip, event)));
         }
     }
     cases
+}
+
+fn with_byte(mut event: Event, at: usize, byte: u8) -> Event {
+    event.operand[at] = byte;
+    event
 }
 
 /// Ticks and loads, and the kind behind them, with DA, DB and levels at and over
@@ -383,7 +384,7 @@ fn pins_and_faults(random: &mut Random) -> Vec<Case> {
             for (da, db) in PINS.iter().flat_map(|&da| PINS.map(|db| (da, db))) {
                 for (level, unused) in LEVELS.iter().flat_map(|&l| [(l, 0), (l, 1)]) {
                     let operand = [da, db, 0, unused, 0, 0, 0, level];
-                    cases.push(on_lively(random, chip, Event { kind, operand }));
+                    cases.extend(on_lively(random, chip, Event { kind, operand }));
                 }
             }
         }

@@ -30,8 +30,8 @@ fn is_refused(operand: [u8; 8]) -> bool
 
 // Where a pixel's colour stands: in its register, or where the colour before it stands, if the register's REP is 1. No branch, since repeating registers come in no order that a processor could guess.
 fn source(places: &[u8], register: u8, before: usize) -> usize
-    requires { ⌜ (length (now places) ≡ facts.places) × (register < facts.registers) × OneBit (now places) × (before < facts.places) ⌝ }
-    ensures { λ r. ⌜ r ≡ cond (eqb (repOf (now (places .entry)) register) 1) before (placeOf register) ⌝ }
+    requires { ⌜ (length (now places) ≡ facts.places) × (register < facts.registers) × OneBit (now places) × (before ≤ facts.values + 3) ⌝ }
+    ensures { λ r. ⌜ (r ≡ cond (eqb (repOf (now (places .entry)) register) 1) before (placeOf register)) × (r ≤ facts.values + 3) ⌝ }
 {
     let own = REGISTER_VALUES * bytes::wide(register);
     let rep = bytes::wide(places[own + 4]);
@@ -91,6 +91,16 @@ fn keep(places: &mut [u8], c: Colour)
     places[BEFORE + 2] = c.blue;
 }
 
+// Black is the colour before, from now on.
+fn darken(places: &mut [u8])
+    requires { ⌜ length (now places) ≡ facts.places ⌝ }
+    ensures { λ _. ⌜ now (places .exit) ≡ set (set (set (now (places .entry)) (facts.values + 3) 0) (facts.values + 4) 0) (facts.values + 5) 0 ⌝ }
+{
+    places[BEFORE] = 0;
+    places[BEFORE + 1] = 0;
+    places[BEFORE + 2] = 0;
+}
+
 // A tick with DATEN high: its answer, and DB's colour becomes the one before.
 fn put_lit(places: &mut [u8], operand: [u8; 8], part: &mut [u8])
     requires { ⌜ Valid facts.largest (now places) × (refusedTick operand ≡ false) × (getD operand 7 0 ≡ 1) × (length (now part) ≡ answerLong) ⌝ }
@@ -115,12 +125,7 @@ pub fn put_tick(places: &mut [u8], operand: [u8; 8], part: &mut [u8])
     }
     if operand[7] == 0 {
         event::put_answer(part, 0, 2);
-        let black = Colour {
-            red: 0,
-            green: 0,
-            blue: 0,
-        };
-        keep(places, black);
+        darken(places);
         return;
     }
     put_lit(places, operand, part);

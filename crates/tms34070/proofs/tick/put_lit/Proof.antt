@@ -1,15 +1,13 @@
 -- `put_lit` meets its contract.
-use Prim.Native.Nat.{_*_, _+_, _<_}
+use Prim.Native.Nat.{_+_, _*_, _<_}
 use mathlib.Core.Path.{sym, _∙_, ap}
 use native.Mathlib.Omega.{arith}
 use lib.ListN.{getD}
-use lib.Dec.{eqb}
 use denote.Ref.{now}
-use Rattle.tms34070.specs.Struct.{colourIs, colourAt}
-use Rattle.tms34070.specs.Tick.{repOf}
-use Rattle.tms34070.proofs.Stores.{kept-state, shown-at, before-at, ext-at, one-bit, source-inside}
+use Rattle.tms34070.proofs.Stores.{kept-state, shown-at, before-at, ext-at, one-bit}
 use Rattle.tms34070.proofs.Shown.{tick-narrow, tick-lit, after-lit}
 use Rattle.tms34070.proofs.Saved.{largest-long}
+use Rattle.tms34070.specs.Struct.{colourIs, colourAt}
 use Rattle.tms34070.specs.Places.{stateFrom}
 use Rattle.tms34070.specs.Facts as facts
 use borrow.Author.Needs.{needs}
@@ -30,26 +28,22 @@ array-read-source-2 c = search needs
 
 source-requires-2 : tie.Need-source-requires-2
 source-requires-2 c κs =
-    let o = c .before .before .before .before .before .args .t2 in
-    let n = tick-narrow o (c .before .before .before .before .before .pre .1) in
-    let inside = source-inside (getD o 0 0) 83 (eqb (repOf (now (c .before .before .before .before .before .args .places)) (getD o 0 0)) 1) (omega (arith, n .0 .0)) (omega arith) in
-    (c .before .before .before .before .before .pre .0 .long ∙ largest-long, omega (arith, n .0 .1), one-bit _ (c .before .before .before .before .before .pre .0), omega (arith, c .before .source .ensures, inside))
+    let pre = c .before .before .before .before .before .pre in
+    let source = c .before .source in
+    let n = tick-narrow _ (pre .1) in
+    (pre .0 .long ∙ largest-long, omega (arith, n .0 .1), one-bit _ (pre .0), omega (arith, source .ensures .1))
 
 colour-at-requires : tie.Need-colour-at-requires
 colour-at-requires c κs =
-    let o = c .before .before .before .before .before .before .before .args .t2 in
-    let n = tick-narrow o (c .before .before .before .before .before .before .before .pre .1) in
-    let inside = source-inside (getD o 0 0) 83 (eqb (repOf (now (c .before .before .before .before .before .before .before .args .places)) (getD o 0 0)) 1) (omega (arith, n .0 .0)) (omega arith) in
-    (c .before .before .before .before .before .before .before .pre .0 .long ∙ largest-long, omega (arith, c .before .before .before .source .ensures, inside))
+    let pre = c .before .before .before .before .before .before .before .pre in
+    let source = c .before .before .before .source in
+    (pre .0 .long ∙ largest-long, omega (arith, source .ensures .1))
 
 colour-at-requires-2 : tie.Need-colour-at-requires-2
 colour-at-requires-2 c κs =
-    let o = c .before .before .before .before .before .before .before .before .before .args .t2 in
-    let n = tick-narrow o (c .before .before .before .before .before .before .before .before .before .pre .1) in
-    let l = now (c .before .before .before .before .before .before .before .before .before .args .places) in
-    let inside = source-inside (getD o 0 0) 83 (eqb (repOf l (getD o 0 0)) 1) (omega (arith, n .0 .0)) (omega arith) in
-    let inside2 = source-inside (getD o 1 0) (c .before .before .before .before .before .source .result) (eqb (repOf l (getD o 1 0)) 1) (omega (arith, n .0 .1)) (omega (arith, c .before .before .before .before .before .source .ensures, inside)) in
-    (c .before .before .before .before .before .before .before .before .before .pre .0 .long ∙ largest-long, omega (arith, c .before .before .before .source2 .ensures, inside2))
+    let pre = c .before .before .before .before .before .before .before .before .before .pre in
+    let source2 = c .before .before .before .source2 in
+    (pre .0 .long ∙ largest-long, omega (arith, source2 .ensures .1))
 
 array-read-levels : tie.Need-array-read-levels
 array-read-levels c = search needs
@@ -88,8 +82,8 @@ returns c =
     let s = stateFrom l in
     let da = colourIs (c .before .before .before .before .before .before .before .before .before .before .before .before .colour-at .result) in
     let db = colourIs (c .before .before .before .before .before .before .before .before .before .before .colour-at2 .result) in
-    let is-da = c .before .before .before .before .before .before .before .before .before .before .before .before .colour-at .ensures ∙ ap (colourAt l) (c .before .before .before .before .before .before .before .before .before .before .before .before .before .before .before .before .source .ensures) ∙ shown-at l long (getD o 0 0) 83 (s .before) a-low (before-at l long) in
-    let is-db = c .before .before .before .before .before .before .before .before .before .before .colour-at2 .ensures ∙ ap (colourAt l) (c .before .before .before .before .before .before .before .before .before .before .before .before .before .before .source2 .ensures) ∙ shown-at l long (getD o 1 0) (c .before .before .before .before .before .before .before .before .before .before .before .before .before .before .before .before .source .result) da b-low (sym (c .before .before .before .before .before .before .before .before .before .before .before .before .colour-at .ensures)) in
+    let is-da = c .before .before .before .before .before .before .before .before .before .before .before .before .colour-at .ensures ∙ ap (colourAt l) (c .before .before .before .before .before .before .before .before .before .before .before .before .before .before .before .before .source .ensures .0) ∙ shown-at l long (getD o 0 0) 83 (s .before) a-low (before-at l long) in
+    let is-db = c .before .before .before .before .before .before .before .before .before .before .colour-at2 .ensures ∙ ap (colourAt l) (c .before .before .before .before .before .before .before .before .before .before .before .before .before .before .source2 .ensures .0) ∙ shown-at l long (getD o 1 0) (c .before .before .before .before .before .before .before .before .before .before .before .before .before .before .before .before .source .result) da b-low (sym (c .before .before .before .before .before .before .before .before .before .before .before .before .colour-at .ensures)) in
     let shows = c .before .before .before .before .before .before .before .levels .ensures ∙ (λ i. 1 + 2 * sym (ext-at l long (getD o 0 0) a-low) i + 4 * sym (ext-at l long (getD o 1 0) b-low) i) in
     record {
       state = ap stateFrom (c .before .before .keep .ensures) ∙ kept-state l long db ∙ (λ i. record { port = s .port; before = after-lit (s .port .values) o (s .before) (c .before .before .before .before .before .before .before .before .before .before .before .before .before .before .before .before .before .before .before .before .pre .1) (c .before .before .before .before .before .before .before .before .before .before .before .before .before .before .before .before .before .before .before .before .pre .2) da db is-da is-db i });

@@ -35,8 +35,8 @@ array-read-if2 c = search needs
 put-answer-requires-2 : tie.Need-put-answer-requires-2
 put-answer-requires-2 c κs = search needs
 
-keep-requires : tie.Need-keep-requires
-keep-requires c κs =
+darken-requires : tie.Need-darken-requires
+darken-requires c κs =
     let pre = c .before .before .before .before .before .before .before .before .before .before .pre in
     pre .0 .long ∙ largest-long
 
@@ -51,7 +51,7 @@ returns-2 c =
     let is-refused = c .before .before .before .before .before .before .before .before .before .before .is-refused in
     let if1 = c .before .before .before .before .before .before .before .before .before .if1 in
     let args = c .before .before .before .before .before .before .before .before .before .before .before .before .before .args in
-    let keep = c .before .before .keep in
+    let darken = c .before .before .darken in
     let pre = c .before .before .before .before .before .before .before .before .before .before .before .before .before .pre in
     let if2 = c .before .before .before .before .before .before .before .before .if2 in
     let put-answer2 = c .before .before .before .before .before .before .put-answer2 in
@@ -59,7 +59,7 @@ returns-2 c =
     let l = now (args .places) in
     let s = stateFrom l in
     record {
-      state = ap stateFrom (keep .ensures) ∙ kept-state l (pre .0 .long ∙ largest-long) black ∙ (λ i. record { port = s .port; before = after-dark (s .port .values) _ (s .before) r (if2 .taken) i });
+      state = ap stateFrom (darken .ensures) ∙ kept-state l (pre .0 .long ∙ largest-long) black ∙ (λ i. record { port = s .port; before = after-dark (s .port .values) _ (s .before) r (if2 .taken) i });
       answer = put-answer2 .ensures ∙ tick-dark (s .port .values) _ (s .before) r (if2 .taken);
     }
 
@@ -91,7 +91,7 @@ put-tick-spec =
     returns
     array-read-if2
     put-answer-requires-2
-    keep-requires
+    darken-requires
     same-length-2
     same-length-3
     returns-2

@@ -110,7 +110,7 @@ seeded: compare-build ## mistakes seeded into the model, the plain program, the 
 
 target/bench/bench: bench/bench.c bench/plain.c bench/plain.h include/palette.h $(LIBPALETTE)
 	@mkdir -p $(@D)
-	$(CC) $(WARNINGS) -O3 -Iinclude -Ibench bench/bench.c bench/plain.c $(LIBPALETTE) $(LDLIBS) -o $@
+	$(CC) $(WARNINGS) -O3 -falign-functions=64 -Iinclude -Ibench bench/bench.c bench/plain.c $(LIBPALETTE) $(LDLIBS) -o $@
 
 bench: target/bench/bench ## time the library beside a plain C program
 	target/bench/bench

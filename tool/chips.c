@@ -56,11 +56,12 @@ bool is_count(const struct chip *chip, size_t place)
 
 void name_place(const struct chip *chip, size_t place, char *name)
 {
-    size_t len = 0;
-    if (place < places_of_entries(chip)) {
-        chip->name_entry(place / chip->entry_places, name);
-        len = strlen(name);
-        name[len++] = ' ';
+    const char *own = place_at(chip, place)->name;
+    if (place >= places_of_entries(chip)) {
+        snprintf(name, NAME_ROOM, "%s", own);
+        return;
     }
-    snprintf(name + len, NAME_ROOM - len, "%s", place_at(chip, place)->name);
+    chip->name_entry(place / chip->entry_places, name);
+    size_t len = strlen(name);
+    snprintf(name + len, NAME_ROOM - len, " %s", own);
 }

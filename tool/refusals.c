@@ -19,7 +19,7 @@ const char *refusal_in_words(unsigned refusal)
     case PALETTE_REFUSED_DIRECTION:
         return "the address was set for the other direction";
     case PALETTE_REFUSED_UNDEFINED_BITS:
-        return "the event sets bits that have no meaning";
+        return "the event sets overlay, level or data bits that have no meaning";
     case PALETTE_REFUSED_NOT_ON_CHIP:
         return "this chip has no such event";
     case PALETTE_REFUSED_LOG_SHORT:

@@ -11,7 +11,7 @@ use Rattle.laws.proofs.Tests.{decide}
 use Rattle.snapshot.specs.Snapshot.{Valid}
 
 -- what holds of the two parts
-pub record Halves (front table array rest : List ℕ) : Type 0 where
+pub record TwoParts (front table array rest : List ℕ) : Type 0 where
   pub long : length array ≡ length front
   pub small : (i : ℕ) → getD array i 0 ≤ getD front i 0
   pub rest-small : (k : ℕ) → getD rest k 0 ≤ getD table k 0
@@ -24,8 +24,8 @@ module _ (front table : List ℕ) where
   second : (xs ys : List ℕ) (k : ℕ) → length xs ≡ length front → getD (xs ++ ys) (length front + k) 0 ≡ getD ys k 0
   second xs ys k e = rw e at (getD-append-add xs ys k 0)
 
-  pub halves-valid : (array rest : List ℕ) → length rest ≡ length table → Halves front table array rest → Valid (front ++ table) (array ++ rest)
-  halves-valid array rest same p = record {
+  pub two-parts-valid : (array rest : List ℕ) → length rest ≡ length table → TwoParts front table array rest → Valid (front ++ table) (array ++ rest)
+  two-parts-valid array rest same p = record {
     long = simp length-append (omega (arith, p .long));
     small = λ i. decide (getD (array ++ rest) i 0 ≤ getD (front ++ table) i 0) (ltb i (length front))
         (λ e. let h : i < length front = ltb-true i (length front) e in
@@ -35,8 +35,8 @@ module _ (front table : List ℕ) where
         rw (at, second array rest k (p .long), getD-append-add front table k 0) (p .rest-small k));
   }
 
-  pub valid-halves : (array rest : List ℕ) → length rest ≡ length table → Valid (front ++ table) (array ++ rest) → Halves front table array rest
-  valid-halves array rest same v =
+  pub valid-two-parts : (array rest : List ℕ) → length rest ≡ length table → Valid (front ++ table) (array ++ rest) → TwoParts front table array rest
+  valid-two-parts array rest same v =
       let long : length array ≡ length front = omega (arith, simp length-append at (v .long)) in
       record {
         long = long;
@@ -51,11 +51,11 @@ module _ (front table : List ℕ) where
       }
 
   -- valid places are two such parts
-  pub places-halves : (l : List ℕ) (n : ℕ) → length front ≡ n → Valid (front ++ table) l → Halves front table (take n l) (drop n l)
-  places-halves l n e v =
+  pub places-two-parts : (l : List ℕ) (n : ℕ) → length front ≡ n → Valid (front ++ table) l → TwoParts front table (take n l) (drop n l)
+  places-two-parts l n e v =
       let long : length l ≡ length front + length table = simp length-append at (v .long) in
       let same : length (drop n l) ≡ length table = simp length-drop (omega arith) in
-      valid-halves (take n l) (drop n l) same (rw (take-append-drop n l) v)
+      valid-two-parts (take n l) (drop n l) same (rw (take-append-drop n l) v)
 
 -- ---- an array of n colours with one largest value
 
@@ -65,8 +65,8 @@ pub record Parts (n top : ℕ) (table colours rest : List ℕ) : Type 0 where
   pub rest-small : (k : ℕ) → getD rest k 0 ≤ getD table k 0
 
 module _ (n top : ℕ) (table colours rest : List ℕ) where
-  parts-halves : Parts n top table colours rest → Halves (replicate n top) table colours rest
-  parts-halves p = record {
+  to-two-parts : Parts n top table colours rest → TwoParts (replicate n top) table colours rest
+  to-two-parts p = record {
     long = p .long ∙ sym (length-replicate n top);
     small = λ i. decide (getD colours i 0 ≤ getD (replicate n top) i 0) (ltb i n)
         (λ e. rw (getD-replicate n i top 0 (ltb-true i n e)) (p .small i))
@@ -74,8 +74,8 @@ module _ (n top : ℕ) (table colours rest : List ℕ) where
     rest-small = p .rest-small;
   }
 
-  halves-parts : Halves (replicate n top) table colours rest → Parts n top table colours rest
-  halves-parts p =
+  from-two-parts : TwoParts (replicate n top) table colours rest → Parts n top table colours rest
+  from-two-parts p =
       let long : length colours ≡ n = p .long ∙ length-replicate n top in
       record {
         long = long;
@@ -87,13 +87,13 @@ module _ (n top : ℕ) (table colours rest : List ℕ) where
 
 module _ (n top : ℕ) (table : List ℕ) where
   pub parts-valid : (colours rest : List ℕ) → length rest ≡ length table → Parts n top table colours rest → Valid (replicate n top ++ table) (colours ++ rest)
-  parts-valid colours rest same p = halves-valid (replicate n top) table colours rest same (parts-halves n top table colours rest p)
+  parts-valid colours rest same p = two-parts-valid (replicate n top) table colours rest same (to-two-parts n top table colours rest p)
 
   pub valid-parts : (colours rest : List ℕ) → length rest ≡ length table → Valid (replicate n top ++ table) (colours ++ rest) → Parts n top table colours rest
-  valid-parts colours rest same v = halves-parts n top table colours rest (valid-halves (replicate n top) table colours rest same v)
+  valid-parts colours rest same v = from-two-parts n top table colours rest (valid-two-parts (replicate n top) table colours rest same v)
 
   pub places-parts : (l : List ℕ) → Valid (replicate n top ++ table) l → Parts n top table (take n l) (drop n l)
-  places-parts l v = halves-parts n top table (take n l) (drop n l) (places-halves (replicate n top) table l n (length-replicate n top) v)
+  places-parts l v = from-two-parts n top table (take n l) (drop n l) (places-two-parts (replicate n top) table l n (length-replicate n top) v)
 
 -- ---- the second part, value by value
 

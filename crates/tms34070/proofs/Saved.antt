@@ -8,11 +8,11 @@ use lib.Seq.{take-at, getD-append-add, getD-drop}
 use Rattle.laws.specs.Bytes.{AllBytes}
 use Rattle.laws.proofs.Lists.{zeros-small, drop-list}
 use Rattle.snapshot.specs.Snapshot.{Valid, refusalFor, restoredBy, resaved}
-use Rattle.snapshot.proofs.Parts.{Halves, each, halves-valid, valid-halves, places-halves}
+use Rattle.snapshot.proofs.Parts.{each, two-parts-valid, valid-two-parts, places-two-parts}
 use Rattle.snapshot.proofs.Layouts as layout
 use Rattle.tms34070.specs.Facts.{number, values, largestRest, places, largestValues, largest}
 use Rattle.tms34070.specs.State.{State, fresh}
-use Rattle.tms34070.specs.Places.{behind, tailOf, placesOf, stateFrom, saved, decodedOrFresh}
+use Rattle.tms34070.specs.Places.{tailOf, placesOf, stateFrom, saved, decodedOrFresh}
 use Rattle.tms34070.proofs.Sound.{Sound, sound-black, values-long}
 
 pub valid : (s : State) → Sound s → Valid largest (placesOf s)
@@ -20,26 +20,26 @@ unfolding largest placesOf
 valid s v =
     let p = v .port in
     let c = v .before in
-    let rest = each largestRest (tailOf s) (p .position, (p .heldRed, (p .heldBits, (c .red, (c .green, (c .blue, tt)))))) in
-    halves-valid largestValues largestRest (s .port .values) (tailOf s) refl (record { long = p .long ∙ sym values-long; small = p .small; rest-small = rest })
+    let rest = each largestRest (tailOf s) (p .position, (p .heldRed, (p .heldAttributes, (c .red, (c .green, (c .blue, tt)))))) in
+    two-parts-valid largestValues largestRest (s .port .values) (tailOf s) refl (record { long = p .long ∙ sym values-long; small = p .small; rest-small = rest })
 
 pub sound : (s : State) → Valid largest (placesOf s) → Sound s
 unfolding largest placesOf
 sound s v =
-    let p = valid-halves largestValues largestRest (s .port .values) (tailOf s) refl v in
+    let p = valid-two-parts largestValues largestRest (s .port .values) (tailOf s) refl v in
     let r = p .rest-small in
-    record { port = record { long = p .long ∙ values-long; small = p .small; position = r 0; heldRed = r 1; heldBits = r 2 }; before = record { red = r 3; green = r 4; blue = r 5 } }
+    record { port = record { long = p .long ∙ values-long; small = p .small; position = r 0; heldRed = r 1; heldAttributes = r 2 }; before = record { red = r 3; green = r 4; blue = r 5 } }
 
 pub sound-from : (l : List ℕ) → Valid largest l → Sound (stateFrom l)
 unfolding largest stateFrom
 sound-from l v =
-    let p = places-halves largestValues largestRest l values values-long v in
-    let at : (k : ℕ) → behind l k ≤ getD largestRest k 0 = λ k. rw (getD-drop values l k 0) at (p .rest-small k) in
-    record { port = record { long = p .long ∙ values-long; small = p .small; position = at 0; heldRed = at 1; heldBits = at 2 }; before = record { red = at 3; green = at 4; blue = at 5 } }
+    let p = places-two-parts largestValues largestRest l values values-long v in
+    let at : (k : ℕ) → getD l (values + k) 0 ≤ getD largestRest k 0 = λ k. rw (getD-drop values l k 0) at (p .rest-small k) in
+    record { port = record { long = p .long ∙ values-long; small = p .small; position = at 0; heldRed = at 1; heldAttributes = at 2 }; before = record { red = at 3; green = at 4; blue = at 5 } }
 
 pub sound-fresh : Sound fresh
 sound-fresh = record {
-  port = record { long = refl; small = λ i. zeros-small (getD largestValues i 0) values i; position = omega arith; heldRed = omega arith; heldBits = omega arith };
+  port = record { long = refl; small = λ i. zeros-small (getD largestValues i 0) values i; position = omega arith; heldRed = omega arith; heldAttributes = omega arith };
   before = sound-black;
 }
 

@@ -19,9 +19,9 @@ use Rattle.tms34070.specs.Tick.{daten, colourOf, repOf, shown, first, se
 pub record SoundPort (p : Port) : Type 0 where
   pub long : length (p .values) ≡ facts.values
   pub small : (i : ℕ) → getD (p .values) i 0 ≤ getD facts.largestValues i 0
-  pub position : p .position ≤ 31
+  pub position : p .position ≤ facts.largestPosition
   pub heldRed : p .heldRed ≤ facts.largestNibble
-  pub heldBits : p .heldBits ≤ 3
+  pub heldAttributes : p .heldAttributes ≤ facts.largestAttributes
 
 pub record SoundColour (c : Colour) : Type 0 where
   pub red : c .red ≤ facts.largestNibble
@@ -54,11 +54,11 @@ value-of (suc m) (suc n) k h j =
     let e : 5 * suc n + k ≡ suc (suc (suc (suc (suc (5 * n + k))))) = omega arith in
     ap (λ i. getD (facts.repeated (suc m) facts.largestRegister) i 0) e ∙ value-of m n k (omega arith) j
 
-pub largest-value : (n k : ℕ) → n < facts.registers → k < facts.registerLong → getD facts.largestValues (facts.registerLong * n + k) 0 ≡ getD facts.largestRegister k 0
+pub largest-value : (n k : ℕ) → n < facts.registerCount → k < facts.registerLong → getD facts.largestValues (facts.registerLong * n + k) 0 ≡ getD facts.largestRegister k 0
 unfolding facts.largestValues
-largest-value n k = value-of facts.registers n k
+largest-value n k = value-of facts.registerCount n k
 
-pub largest-red : (n : ℕ) → n < facts.registers → getD facts.largestValues (facts.registerLong * n) 0 ≡ facts.largestNibble
+pub largest-red : (n : ℕ) → n < facts.registerCount → getD facts.largestValues (facts.registerLong * n) 0 ≡ facts.largestNibble
 largest-red n h = let e : 5 * n ≡ 5 * n + 0 = omega arith in ap (λ i. getD facts.largestValues i 0) e ∙ largest-value n 0 h (omega arith)
 
 -- ---- loads
@@ -76,7 +76,7 @@ narrow da db h = go (ltb 15 da) (ltb 15 db) refl refl h
 -- what an access stores is within its place's bounds
 abbrev Stores : Access → Type 0
 Stores (refuse n) = Unit {0}
-Stores (hold red bits) = (red ≤ facts.largestNibble) × (bits ≤ 3)
+Stores (hold red attributes) = (red ≤ facts.largestNibble) × (attributes ≤ facts.largestAttributes)
 Stores (store green blue) = (green ≤ facts.largestNibble) × (blue ≤ facts.largestNibble)
 
 request-stores : (p : Port) (e : Raw) → Stores (request p e)
@@ -92,13 +92,13 @@ request-stores p e =
 
 next-sound : (p : Port) (x : Access) → Stores x → SoundPort p → SoundPort (next p x)
 next-sound p (refuse n) h v = v
-next-sound p (hold red bits) h v = record { long = v .long; small = v .small; position = omega arith; heldRed = h .0; heldBits = h .1 }
+next-sound p (hold red attributes) h v = record { long = v .long; small = v .small; position = omega arith; heldRed = h .0; heldAttributes = h .1 }
 next-sound p (store green blue) h v =
     let n : ℕ = p .position / 2 in
     let low : n < 16 = omega (arith, v .position) in
     let P : ℕ → ℕ → Type 0 = λ i x. x ≤ getD facts.largestValues i 0 in
-    let ext : ℕ = p .heldBits % 2 in
-    let rep : ℕ = p .heldBits / 2 in
+    let ext : ℕ = p .heldAttributes % 2 in
+    let rep : ℕ = p .heldAttributes / 2 in
     let l₁ : List ℕ = set (p .values) (5 * n) (p .heldRed) in
     let l₂ : List ℕ = set l₁ (5 * n + 1) green in
     let l₃ : List ℕ = set l₂ (5 * n + 2) blue in
@@ -108,7 +108,7 @@ next-sound p (store green blue) h v =
     let x = largest-value n 3 low (omega arith) in
     let y = largest-value n 4 low (omega arith) in
     let x-low : ext ≤ 1 = omega arith in
-    let y-low : rep ≤ 1 = omega (arith, v .heldBits) in
+    let y-low : rep ≤ 1 = omega (arith, v .heldAttributes) in
     let same : length (stored (p .values) n (p .heldRed) green blue ext rep) ≡ length (p .values) = simp length-set in
     record {
       long = same ∙ v .long;
@@ -120,7 +120,7 @@ next-sound p (store green blue) h v =
           (set-all P (p .values) (5 * n) (p .heldRed) (omega (arith, largest-red n low, v .heldRed)) (v .small)))));
       position = omega arith;
       heldRed = v .heldRed;
-      heldBits = v .heldBits;
+      heldAttributes = v .heldAttributes;
     }
 
 pub sound-move : (p : Port) (e : Raw) → SoundPort p → SoundPort (next p (request p e))

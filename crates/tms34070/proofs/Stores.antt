@@ -9,10 +9,10 @@ use lib.ListN.{length, getD, set, take, length-set}
 use lib.Seq.{take-set-le, take-set-lt, getD-take, getD-set-same, getD-set-other}
 use Rattle.snapshot.specs.Snapshot.{Valid}
 use Rattle.tms34070.specs.Facts as facts
-use Rattle.tms34070.specs.State.{Colour, State}
+use Rattle.tms34070.specs.State.{Colour}
 use Rattle.tms34070.specs.Load.{placeOf, stored}
 use Rattle.tms34070.specs.Tick.{colourOf, extOf, repOf, shown}
-use Rattle.tms34070.specs.Places.{behind, stateFrom}
+use Rattle.tms34070.specs.Places.{stateFrom}
 use Rattle.tms34070.specs.Struct.{colourAt, OneBit}
 use Rattle.tms34070.proofs.Sound.{largest-value}
 use Rattle.tms34070.proofs.Saved.{sound-from, largest-long}
@@ -26,7 +26,7 @@ module _ (l : List ℕ) (long : length l ≡ facts.places) where
 
   -- a register's first load
   pub held-state : (p r b : ℕ)
-      → stateFrom (set (set (set l 81 r) 82 b) 80 p) ≡ record { port = record { values = stateFrom l .port .values; position = p; heldRed = r; heldBits = b }; before = stateFrom l .before }
+      → stateFrom (set (set (set l facts.heldRed r) facts.heldAttributes b) facts.position p) ≡ record { port = record { values = stateFrom l .port .values; position = p; heldRed = r; heldAttributes = b }; before = stateFrom l .before }
   unfolding stateFrom
   held-state p r b =
       let l₁ : List ℕ = set l 81 r in
@@ -38,13 +38,13 @@ module _ (l : List ℕ) (long : length l ≡ facts.places) where
       let red : getD (set l₂ 80 p) 81 0 ≡ r = getD-set-other l₂ 80 81 p 0 (λ z. omega arith) ∙ getD-set-other l₁ 82 81 b 0 (λ z. omega arith) ∙ same l 81 r refl (omega arith) in
       let bits : getD (set l₂ 80 p) 82 0 ≡ b = getD-set-other l₂ 80 82 p 0 (λ z. omega arith) ∙ same l₁ 82 b (length-set l 81 r) (omega arith) in
       λ i. record {
-        port = record { values = values i; position = position i; heldRed = red i; heldBits = bits i };
+        port = record { values = values i; position = position i; heldRed = red i; heldAttributes = bits i };
         before = record { red = far 83 (omega arith) i; green = far 84 (omega arith) i; blue = far 85 (omega arith) i };
       }
 
   -- its second
-  pub stored-state : (p n r g b x y : ℕ) → n < facts.registers
-      → stateFrom (set (stored l n r g b x y) 80 p) ≡ record { port = record { values = stored (stateFrom l .port .values) n r g b x y; position = p; heldRed = stateFrom l .port .heldRed; heldBits = stateFrom l .port .heldBits }; before = stateFrom l .before }
+  pub stored-state : (p n r g b x y : ℕ) → n < facts.registerCount
+      → stateFrom (set (stored l n r g b x y) facts.position p) ≡ record { port = record { values = stored (stateFrom l .port .values) n r g b x y; position = p; heldRed = stateFrom l .port .heldRed; heldAttributes = stateFrom l .port .heldAttributes }; before = stateFrom l .before }
   unfolding stateFrom
   stored-state p n r g b x y h =
       let l₁ : List ℕ = set l (5 * n) r in
@@ -68,12 +68,12 @@ module _ (l : List ℕ) (long : length l ≡ facts.places) where
       ∙ ap (λ m. set m (5 * n + 1) g) (take-set-lt 80 l (5 * n) r (omega arith))))) in
       let long₅ : length l₅ ≡ length l = simp length-set in
       λ i. record {
-        port = record { values = values i; position = same l₅ 80 p long₅ (omega arith) i; heldRed = far 81 (omega arith) i; heldBits = far 82 (omega arith) i };
+        port = record { values = values i; position = same l₅ 80 p long₅ (omega arith) i; heldRed = far 81 (omega arith) i; heldAttributes = far 82 (omega arith) i };
         before = record { red = far 83 (omega arith) i; green = far 84 (omega arith) i; blue = far 85 (omega arith) i };
       }
 
   -- the colour before
-  pub kept-state : (c : Colour) → stateFrom (set (set (set l 83 (c .red)) 84 (c .green)) 85 (c .blue)) ≡ record { port = stateFrom l .port; before = c }
+  pub kept-state : (c : Colour) → stateFrom (set (set (set l facts.before (c .red)) (facts.before + 1) (c .green)) (facts.before + 2) (c .blue)) ≡ record { port = stateFrom l .port; before = c }
   unfolding stateFrom
   kept-state c =
       let l₁ : List ℕ = set l 83 (c .red) in
@@ -85,25 +85,25 @@ module _ (l : List ℕ) (long : length l ≡ facts.places) where
       let green : getD (set l₂ 85 (c .blue)) 84 0 ≡ c .green = getD-set-other l₂ 85 84 (c .blue) 0 (λ z. omega arith) ∙ same l₁ 84 (c .green) (length-set l 83 (c .red)) (omega arith) in
       let blue : getD (set l₂ 85 (c .blue)) 85 0 ≡ c .blue = same l₂ 85 (c .blue) (length-set l₁ 84 (c .green) ∙ length-set l 83 (c .red)) (omega arith) in
       λ i. record {
-        port = record { values = values i; position = far 80 (omega arith) i; heldRed = far 81 (omega arith) i; heldBits = far 82 (omega arith) i };
+        port = record { values = values i; position = far 80 (omega arith) i; heldRed = far 81 (omega arith) i; heldAttributes = far 82 (omega arith) i };
         before = record { red = red i; green = green i; blue = blue i };
       }
 
   -- ---- reads
 
   -- a register's value stands at the place of its number
-  value-at : (n k : ℕ) → n < facts.registers → k < 5 → getD (take facts.values l) (placeOf n + k) 0 ≡ getD l (placeOf n + k) 0
+  value-at : (n k : ℕ) → n < facts.registerCount → k < 5 → getD (take facts.values l) (placeOf n + k) 0 ≡ getD l (placeOf n + k) 0
   value-at n k h j = getD-take 80 l (5 * n + k) 0 (omega arith)
 
-  red-at : (n : ℕ) → n < facts.registers → getD (take facts.values l) (placeOf n) 0 ≡ getD l (placeOf n) 0
+  red-at : (n : ℕ) → n < facts.registerCount → getD (take facts.values l) (placeOf n) 0 ≡ getD l (placeOf n) 0
   red-at n h = getD-take 80 l (5 * n) 0 (omega arith)
 
-  pub ext-at : (n : ℕ) → n < facts.registers → extOf (stateFrom l .port .values) n ≡ extOf l n
+  pub ext-at : (n : ℕ) → n < facts.registerCount → extOf (stateFrom l .port .values) n ≡ extOf l n
   unfolding stateFrom
   ext-at n h = value-at n 3 h (omega arith)
 
   -- a pixel's colour stands in its register, or where the one before it stands
-  pub shown-at : (n j : ℕ) (c : Colour) → n < facts.registers → colourAt l j ≡ c → colourAt l (cond (eqb (repOf l n) 1) j (placeOf n)) ≡ shown (stateFrom l .port .values) c n
+  pub shown-at : (n j : ℕ) (c : Colour) → n < facts.registerCount → colourAt l j ≡ c → colourAt l (cond (eqb (repOf l n) 1) j (placeOf n)) ≡ shown (stateFrom l .port .values) c n
   unfolding shown stateFrom
   shown-at n j c h e = go (eqb (repOf l n) 1) refl
     where
@@ -114,7 +114,7 @@ module _ (l : List ℕ) (long : length l ≡ facts.places) where
           (λ i. record { red = sym (red-at n h) i; green = sym (value-at n 1 h (omega arith)) i; blue = sym (value-at n 2 h (omega arith)) i })
 
   -- and the colour before the tick stands behind
-  pub before-at : colourAt l 83 ≡ stateFrom l .before
+  pub before-at : colourAt l facts.before ≡ stateFrom l .before
   unfolding stateFrom
   before-at = refl
 
@@ -129,7 +129,7 @@ one-bit l v n h =
     )
 
 -- a source of a colour is a register or the colour before
-pub source-inside : (n j : ℕ) (b : Bool) → n < facts.registers → j ≤ facts.values + 3 → cond b j (placeOf n) ≤ facts.values + 3
+pub source-inside : (n j : ℕ) (b : Bool) → n < facts.registerCount → j ≤ facts.before → cond b j (placeOf n) ≤ facts.before
 source-inside n j true h k = k
 source-inside n j false h k = omega arith
 

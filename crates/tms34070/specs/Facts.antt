@@ -8,8 +8,8 @@ abbrev pub number : ℕ
 number = 3
 
 -- the registers of its colour lookup table
-abbrev pub registers : ℕ
-registers = 16
+abbrev pub registerCount : ℕ
+registerCount = 16
 
 -- DA, DB and colours have 4 bits
 abbrev pub largestNibble : ℕ
@@ -24,18 +24,38 @@ registerLong = length largestRegister
 
 -- places 0 to 79 are the registers' values
 abbrev pub values : ℕ
-values = registers * registerLong
+values = registerCount * registerLong
 
 -- 32 loads fill the registers, two each
 abbrev pub loads : ℕ
-loads = 2 * registers
+loads = 2 * registerCount
+
+abbrev pub largestPosition : ℕ
+largestPosition = 31
+
+-- EXT + 2 × REP
+abbrev pub largestAttributes : ℕ
+largestAttributes = 3
 
 -- the largest values of the places behind them: load position, held red, held EXT + 2 × REP, red, green and blue of the colour before
 abbrev pub largestRest : List ℕ
-largestRest = 31 ∷ largestNibble ∷ 3 ∷ largestNibble ∷ largestNibble ∷ largestNibble ∷ []
+largestRest = largestPosition ∷ largestNibble ∷ largestAttributes ∷ largestNibble ∷ largestNibble ∷ largestNibble ∷ []
 
 abbrev pub places : ℕ
 places = values + length largestRest
+
+-- where they stand; the colour before has three
+abbrev pub position : ℕ
+position = values
+
+abbrev pub heldRed : ℕ
+heldRed = values + 1
+
+abbrev pub heldAttributes : ℕ
+heldAttributes = values + 2
+
+abbrev pub before : ℕ
+before = values + 3
 
 -- a list n times, one behind the other
 abbrev pub repeated : ℕ → List ℕ → List ℕ
@@ -43,7 +63,7 @@ repeated zero l = []
 repeated (suc n) l = l ++ repeated n l
 
 unfoldable pub largestValues : List ℕ
-largestValues = repeated registers largestRegister
+largestValues = repeated registerCount largestRegister
 
 -- the places' largest values
 unfoldable pub largest : List ℕ

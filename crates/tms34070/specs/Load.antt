@@ -3,7 +3,7 @@ use Prim.Native.Nat.{ℕ, _+_, _*_, _/_, _%_}
 use mathlib.Core.Bool.{Bool, true, false, cond, _||_}
 use mathlib.Core.List.{List}
 use lib.Dec.{ltb, eqb}
-use lib.ListN.{getD, set}
+use lib.ListN.{set}
 use Rattle.event.specs.Kinds as kinds
 use Rattle.event.specs.Answer.{Answer, refused, done}
 use Rattle.event.specs.Event.{Raw, operandAt}
@@ -47,22 +47,22 @@ stored values register red green blue ext rep =
 -- What an access leaves. The second load stores into the register that the load position stands at; the held values stay.
 abbrev pub next : Port → Access → Port
 next p (refuse n) = p
-next p (hold red bits) = record { values = p .values; position = onward (p .position); heldRed = red; heldBits = bits }
+next p (hold red attributes) = record { values = p .values; position = onward (p .position); heldRed = red; heldAttributes = attributes }
 next p (store green blue) =
     record {
-      values = stored (p .values) (p .position / 2) (p .heldRed) green blue (p .heldBits % 2) (p .heldBits / 2);
+      values = stored (p .values) (p .position / 2) (p .heldRed) green blue (p .heldAttributes % 2) (p .heldAttributes / 2);
       position = onward (p .position);
       heldRed = p .heldRed;
-      heldBits = p .heldBits;
+      heldAttributes = p .heldAttributes;
     }
 
 abbrev pub reply : Access → Answer
 reply (refuse n) = refused n
-reply (hold red bits) = done
+reply (hold red attributes) = done
 reply (store green blue) = done
 
 -- document 01's painting access, by document 02: a register's second load, unrefused
 abbrev pub altersDisplay : Access → Bool
 altersDisplay (refuse n) = false
-altersDisplay (hold red bits) = false
+altersDisplay (hold red attributes) = false
 altersDisplay (store green blue) = true

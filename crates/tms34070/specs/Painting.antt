@@ -12,12 +12,12 @@ use Rattle.tms34070.specs.Load.{overNibble, requestLoad, request, alters
 
 -- a register's second load, at an odd load position, unrefused: DA and DB are at most 15
 abbrev pub paints : ℕ → ℕ → ℕ → ℕ → Bool
-paints kind da db position = eqb kind load && ((leb da 15 && leb db 15) && eqb (position % 2) 1)
+paints kind da db position = eqb kind load && ((leb da facts.largestNibble && leb db facts.largestNibble) && eqb (position % 2) 1)
 
 -- an access with DA and DB at a load position
 abbrev pub row : ℕ → ℕ → ℕ → ℕ → Bool → AccessRow Port
 row kind da db position alters = record {
-  state = record { values = replicate facts.values 0; position = position; heldRed = 0; heldBits = 0 };
+  state = record { values = replicate facts.values 0; position = position; heldRed = 0; heldAttributes = 0 };
   access = record { kind = kind; operand = da ∷ db ∷ replicate 6 0 };
   alters = alters;
 }

@@ -18,7 +18,7 @@ pub record Port : Type 0 where
   pub values : List ℕ
   pub position : ℕ
   pub heldRed : ℕ
-  pub heldBits : ℕ
+  pub heldAttributes : ℕ
 
 -- a tick moves the colour before, that of the pixel shown last
 pub record State : Type 0 where
@@ -27,4 +27,4 @@ pub record State : Type 0 where
 
 -- a fresh chip has 0 in all places
 abbrev pub fresh : State
-fresh = record { port = record { values = replicate facts.values 0; position = 0; heldRed = 0; heldBits = 0 }; before = black }
+fresh = record { port = record { values = replicate facts.values 0; position = 0; heldRed = 0; heldAttributes = 0 }; before = black }

@@ -19,7 +19,7 @@ colourIs c = record { red = c .red; green = c .green; blue = c .blue }
 
 abbrev pub stateOf : code.Tms34070 → State
 stateOf s = record {
-  port = record { values = s .registers; position = s .position; heldRed = s .«held_red»; heldBits = s .«held_bits» };
+  port = record { values = s .registers; position = s .position; heldRed = s .«held_red»; heldAttributes = s .«held_attributes» };
   before = colourIs (s .before);
 }
 
@@ -31,7 +31,7 @@ colourAt l i = record { red = getD l i 0; green = getD l (i + 1) 0; blue = getD 
 
 -- EXT and REP of every register have one bit
 abbrev pub OneBit : List ℕ → Type 0
-OneBit l = (n : ℕ) → n < facts.registers → (extOf l n ≤ 1) × (repOf l n ≤ 1)
+OneBit l = (n : ℕ) → n < facts.registerCount → (extOf l n ≤ 1) × (repOf l n ≤ 1)
 
 -- what a tick leaves and answers
 pub record Ticked (before after o part : List ℕ) : Type 0 where

@@ -6,14 +6,16 @@ ghost use Rattle.snapshot.specs.Snapshot.{Valid};
 ghost use Rattle.event.specs.Answer.{answerLong};
 ghost use Rattle.tms34070.specs.Facts as facts;
 ghost use Rattle.tms34070.specs.Load.{overNibble, requestLoad, onward, stored};
-ghost use Rattle.tms34070.specs.Places.{stateFrom, behind};
+ghost use Rattle.tms34070.specs.Places.{stateFrom};
 ghost use Rattle.tms34070.specs.Struct.{Accessed};
-use crate::HELD_BITS;
+use crate::EXT;
+use crate::HELD_ATTRIBUTES;
 use crate::HELD_RED;
 use crate::LARGEST_NIBBLE;
 use crate::LOADS;
 use crate::POSITION;
 use crate::REGISTER_VALUES;
+use crate::REP;
 
 // DA or DB has more than four bits.
 pub fn over_nibble(da: u8, db: u8) -> bool
@@ -39,22 +41,22 @@ fn onward(position: u8) -> u8
 // A register's five values: those that its first load held, and green and blue.
 fn store(places: &mut [u8], position: u8, green: u8, blue: u8)
     requires { ⌜ (length (now places) ≡ facts.places) × (position < facts.loads) ⌝ }
-    ensures { λ _. ⌜ now (places .exit) ≡ stored (now (places .entry)) (position / 2) (behind (now (places .entry)) 1) green blue (behind (now (places .entry)) 2 % 2) (behind (now (places .entry)) 2 / 2) ⌝ }
+    ensures { λ _. ⌜ now (places .exit) ≡ stored (now (places .entry)) (position / 2) (getD (now (places .entry)) facts.heldRed 0) green blue (getD (now (places .entry)) facts.heldAttributes 0 % 2) (getD (now (places .entry)) facts.heldAttributes 0 / 2) ⌝ }
 {
     let red = places[HELD_RED];
-    let bits = places[HELD_BITS];
+    let attributes = places[HELD_ATTRIBUTES];
     let from = REGISTER_VALUES * bytes::wide(position / 2);
     places[from] = red;
     places[from + 1] = green;
     places[from + 2] = blue;
-    places[from + 3] = bits % 2;
-    places[from + 4] = bits / 2;
+    places[from + EXT] = attributes % 2;
+    places[from + REP] = attributes / 2;
 }
 
 // Its answer has its refusal and nothing else.
 pub fn load(places: &mut [u8], da: u8, db: u8, part: &mut [u8])
     requires { ⌜ Valid facts.largest (now places) × (length (now part) ≡ answerLong) ⌝ }
-    ensures { λ _. ⌜ Accessed (stateFrom (now (places .entry))) (stateFrom (now (places .exit))) (requestLoad (behind (now (places .entry)) 0) da db) (now (part .exit)) ⌝ }
+    ensures { λ _. ⌜ Accessed (stateFrom (now (places .entry))) (stateFrom (now (places .exit))) (requestLoad (getD (now (places .entry)) facts.position 0) da db) (now (part .exit)) ⌝ }
 {
     if over_nibble(da, db) {
         event::put_answer(part, 4, 0);
@@ -64,7 +66,7 @@ pub fn load(places: &mut [u8], da: u8, db: u8, part: &mut [u8])
     let position = places[POSITION];
     if position % 2 == 0 {
         places[HELD_RED] = da;
-        places[HELD_BITS] = db % 4;
+        places[HELD_ATTRIBUTES] = db % 4;
         places[POSITION] = onward(position);
         return;
     }

@@ -9,11 +9,12 @@ ghost use Rattle.event.specs.Answer.{showed, answerLong, bytesOf};
 ghost use Rattle.tms34070.specs.Facts as facts;
 ghost use Rattle.tms34070.specs.Load.{placeOf};
 ghost use Rattle.tms34070.specs.Tick.{extOf, repOf, codesOf, refusedTick};
-ghost use Rattle.tms34070.specs.Places.{stateFrom};
 ghost use Rattle.tms34070.specs.Struct.{colourIs, colourAt, OneBit, Ticked};
 use crate::BEFORE;
 use crate::Colour;
+use crate::EXT;
 use crate::REGISTER_VALUES;
+use crate::REP;
 use crate::load::over_nibble;
 
 fn is_refused(operand: [u8; 8]) -> bool
@@ -30,11 +31,11 @@ fn is_refused(operand: [u8; 8]) -> bool
 
 // Where a pixel's colour stands: in its register, or where the colour before it stands, if the register's REP is 1. No branch, since repeating registers come in no order that a processor could guess.
 fn source(places: &[u8], register: u8, before: usize) -> usize
-    requires { ⌜ (length (now places) ≡ facts.places) × (register < facts.registers) × OneBit (now places) × (before ≤ facts.values + 3) ⌝ }
-    ensures { λ r. ⌜ (r ≡ cond (eqb (repOf (now (places .entry)) register) 1) before (placeOf register)) × (r ≤ facts.values + 3) ⌝ }
+    requires { ⌜ (length (now places) ≡ facts.places) × (register < facts.registerCount) × OneBit (now places) × (before ≤ facts.before) ⌝ }
+    ensures { λ r. ⌜ (r ≡ cond (eqb (repOf (now (places .entry)) register) 1) before (placeOf register)) × (r ≤ facts.before) ⌝ }
 {
     let own = REGISTER_VALUES * bytes::wide(register);
-    let rep = bytes::wide(places[own + 4]);
+    let rep = bytes::wide(places[own + REP]);
     rep * before + (1 - rep) * own
 }
 
@@ -51,16 +52,16 @@ fn colour_at(places: &[u8], at: usize) -> Colour
 }
 
 fn ext(places: &[u8], register: u8) -> u8
-    requires { ⌜ (length (now places) ≡ facts.places) × (register < facts.registers) ⌝ }
+    requires { ⌜ (length (now places) ≡ facts.places) × (register < facts.registerCount) ⌝ }
     ensures { λ r. ⌜ r ≡ extOf (now (places .entry)) register ⌝ }
 {
     let from = REGISTER_VALUES * bytes::wide(register);
-    places[from + 3]
+    places[from + EXT]
 }
 
 // DATEN, which is high, and the EXT of both pixels' registers.
 fn levels(places: &[u8], da: u8, db: u8) -> u8
-    requires { ⌜ (length (now places) ≡ facts.places) × (da < facts.registers) × (db < facts.registers) × OneBit (now places) ⌝ }
+    requires { ⌜ (length (now places) ≡ facts.places) × (da < facts.registerCount) × (db < facts.registerCount) × OneBit (now places) ⌝ }
     ensures { λ r. ⌜ r ≡ 1 + 2 * extOf (now (places .entry)) da + 4 * extOf (now (places .entry)) db ⌝ }
 {
     1 + 2 * ext(places, da) + 4 * ext(places, db)
@@ -84,7 +85,7 @@ fn put_pixels(part: &mut [u8], levels: u8, da: Colour, db: Colour)
 // The colour before, from now on.
 fn keep(places: &mut [u8], c: Colour)
     requires { ⌜ length (now places) ≡ facts.places ⌝ }
-    ensures { λ _. ⌜ now (places .exit) ≡ set (set (set (now (places .entry)) (facts.values + 3) (c .red)) (facts.values + 4) (c .green)) (facts.values + 5) (c .blue) ⌝ }
+    ensures { λ _. ⌜ now (places .exit) ≡ set (set (set (now (places .entry)) (facts.before) (c .red)) (facts.before + 1) (c .green)) (facts.before + 2) (c .blue) ⌝ }
 {
     places[BEFORE] = c.red;
     places[BEFORE + 1] = c.green;
@@ -94,7 +95,7 @@ fn keep(places: &mut [u8], c: Colour)
 // Black is the colour before, from now on.
 fn darken(places: &mut [u8])
     requires { ⌜ length (now places) ≡ facts.places ⌝ }
-    ensures { λ _. ⌜ now (places .exit) ≡ set (set (set (now (places .entry)) (facts.values + 3) 0) (facts.values + 4) 0) (facts.values + 5) 0 ⌝ }
+    ensures { λ _. ⌜ now (places .exit) ≡ set (set (set (now (places .entry)) (facts.before) 0) (facts.before + 1) 0) (facts.before + 2) 0 ⌝ }
 {
     places[BEFORE] = 0;
     places[BEFORE + 1] = 0;

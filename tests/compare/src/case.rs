@@ -40,7 +40,7 @@ impl Case {
 
 /// The refusals that an event of the log gets whatever the chip's state: in its
 /// answer, and returned.
-const IN_AN_ANSWER: Refusal = Refusal::Vertical;
+const IN_AN_ANSWER: Refusal = Refusal::NotOnChip;
 const RETURNED: [Refusal; 2] = [Refusal::Kind, Refusal::UnusedByte];
 
 impl Case {

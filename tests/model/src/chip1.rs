@@ -190,7 +190,7 @@ impl Chip1 {
     pub(crate) fn tick(&self, operand: &Operand) -> Result<Answer, Refusal> {
         let [_, _, _, _, _, ol0, ol1, levels] = *operand;
         if ol0 >> 5 != 0 || ol1 >> 5 != 0 || levels >> 2 != 0 {
-            return Err(Refusal::TickBits);
+            return Err(Refusal::UndefinedBits);
         }
         let count = if self.cr(7) { 5 } else { 4 };
         let blk_high = levels & 1 != 0;

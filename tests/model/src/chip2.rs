@@ -125,7 +125,7 @@ impl Chip2 {
     pub(crate) fn tick(&self, operand: &Operand) -> Result<Answer, Refusal> {
         let (pixel, level) = (operand[0], operand[7]);
         if level > 1 {
-            return Err(Refusal::TickBits);
+            return Err(Refusal::UndefinedBits);
         }
         let mut answer = [0; ANSWER_BYTES];
         answer[1] = 1;

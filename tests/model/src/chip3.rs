@@ -106,7 +106,7 @@ impl Chip3 {
         let (da, db, daten) = (operand[0], operand[1], operand[7]);
         check_pins(da, db)?;
         if daten > 1 {
-            return Err(Refusal::TickBits);
+            return Err(Refusal::UndefinedBits);
         }
         let mut answer = [0; ANSWER_BYTES];
         answer[1] = PIXELS;
@@ -174,7 +174,7 @@ impl Chip3 {
 /// Refusal 4 for more than the pins can have, in a load or a tick.
 fn check_pins(da: u8, db: u8) -> Result<(), Refusal> {
     if da > FOUR_BITS || db > FOUR_BITS {
-        return Err(Refusal::TickBits);
+        return Err(Refusal::UndefinedBits);
     }
     Ok(())
 }

@@ -16,10 +16,10 @@ pub enum Refusal {
     Direction = 3,
     /// Tick: OL bits 5 to 7 or undefined level bits set. Chip 3, load or tick:
     /// DA or DB over 15.
-    TickBits = 4,
+    UndefinedBits = 4,
     /// An event that the chip doesn't have: vertical period on chip 2; load on
     /// chips 1 and 2; write, read or vertical period on chip 3.
-    Vertical = 5,
+    NotOnChip = 5,
     /// Log under 5 bytes.
     LogShort = 10,
     /// Log's chip not built.

@@ -1,4 +1,4 @@
-//! Sequences after the HD153129's Tables 2 and 3, and one with both chips.
+//! Sequences after the HD153129's Tables 2 and 3, and one with chips 1 and 2.
 
 use crate::sequence::Step::{Chip, Raw, Read, Save, Tick, Vertical, Write};
 use crate::sequence::{Sequence, Step};
@@ -185,9 +185,9 @@ pub const SEQUENCES: &[Sequence] = &[
             shown(0x84),
         ]],
     },
-    // ---- both
+    // ---- chips 1 and 2
     Sequence {
-        name: "both chips: each has a state of its own",
+        name: "chips 1 and 2: each has a state of its own",
         chip: 1,
         parts: &[&[
             Write(c::ADDRESS, &[0x10]),

@@ -323,7 +323,7 @@ pub const SEQUENCES: &[Sequence] = &[
         ]],
     },
     Sequence {
-        name: "TLC34058 Table 4: no selector over 3, no kind over 4, no unused byte",
+        name: "TLC34058 Table 4: no selector over 3, no kind over 5, no unused byte",
         chip: 1,
         parts: &[&[
             Write(c::ADDRESS, &[0x10]),

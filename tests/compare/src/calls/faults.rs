@@ -11,8 +11,8 @@ pub const OF_THE_CHIP: [Refusal; 5] = [
     Refusal::Selector,
     Refusal::Address,
     Refusal::Direction,
-    Refusal::TickBits,
-    Refusal::Vertical,
+    Refusal::UndefinedBits,
+    Refusal::NotOnChip,
 ];
 
 /// The refusals that come from an event's kind and operand.
@@ -82,7 +82,7 @@ fn chips_with(fault: Refusal) -> &'static [u8] {
         Refusal::Address => &[1],
         Refusal::Direction => &[2],
         Refusal::Selector => &[1, 2],
-        Refusal::TickBits | Refusal::Vertical => &CHIPS,
+        Refusal::UndefinedBits | Refusal::NotOnChip => &CHIPS,
         Refusal::Kind | Refusal::UnusedByte => &CHIPS,
         _ => panic!("{fault:?} is no fault of an event"),
     }
@@ -107,9 +107,9 @@ fn refused_event(random: &mut Random, chip: u8, places: &mut [u8], fault: Refusa
                 _ => write(rs::CLT, random.byte()),
             }
         }
-        Refusal::TickBits if takes_loads(chip) && random.one_in(2) => random.odd_load(),
-        Refusal::TickBits => random.odd_tick(chip),
-        Refusal::Vertical => not_on(random, chip),
+        Refusal::UndefinedBits if takes_loads(chip) && random.one_in(2) => random.odd_load(),
+        Refusal::UndefinedBits => random.odd_tick(chip),
+        Refusal::NotOnChip => not_on(random, chip),
         Refusal::Kind => odd_kind(random, chip),
         Refusal::UnusedByte => {
             let mut event = random.event(chip);

@@ -237,7 +237,7 @@ impl Record {
         if is(Refusal::CurrentsChip) {
             return self.on(CURRENTS_CHIP).into_iter().collect();
         }
-        if is(Refusal::Vertical) {
+        if is(Refusal::NotOnChip) {
             return self.on_chips_with_the_event();
         }
         let mut record = self.clone();
@@ -340,8 +340,8 @@ pub static EVENTS: Table = Table {
         row(Refusal::Selector, "selector over 3"),
         row(Refusal::Address, "overlay or control address"),
         row(Refusal::Direction, "direction"),
-        row(Refusal::TickBits, "undefined bits of a tick or a load"),
-        row(Refusal::Vertical, "an event that the chip doesn't have"),
+        row(Refusal::UndefinedBits, "undefined bits of a tick or a load"),
+        row(Refusal::NotOnChip, "an event that the chip doesn't have"),
         row(Refusal::Kind, "kind over the highest"),
         row(Refusal::UnusedByte, "unused operand byte"),
         row(Refusal::SnapshotChip, "state's chip not built"),
@@ -352,25 +352,25 @@ pub static EVENTS: Table = Table {
         before(Refusal::SnapshotChip, Refusal::Selector),
         before(Refusal::SnapshotChip, Refusal::Address),
         before(Refusal::SnapshotChip, Refusal::Direction),
-        before(Refusal::SnapshotChip, Refusal::TickBits),
-        before(Refusal::SnapshotChip, Refusal::Vertical),
+        before(Refusal::SnapshotChip, Refusal::UndefinedBits),
+        before(Refusal::SnapshotChip, Refusal::NotOnChip),
         before(Refusal::Value, Refusal::Kind),
         before(Refusal::Value, Refusal::UnusedByte),
         before(Refusal::Value, Refusal::Selector),
         before(Refusal::Value, Refusal::Address),
         before(Refusal::Value, Refusal::Direction),
-        before(Refusal::Value, Refusal::TickBits),
-        before(Refusal::Value, Refusal::Vertical),
+        before(Refusal::Value, Refusal::UndefinedBits),
+        before(Refusal::Value, Refusal::NotOnChip),
         before(Refusal::Kind, Refusal::UnusedByte),
         before(Refusal::UnusedByte, Refusal::Selector),
         before(Refusal::UnusedByte, Refusal::Address),
         before(Refusal::UnusedByte, Refusal::Direction),
-        before(Refusal::UnusedByte, Refusal::TickBits),
-        before(Refusal::UnusedByte, Refusal::Vertical),
-        before(Refusal::Vertical, Refusal::Selector),
-        before(Refusal::Vertical, Refusal::Address),
-        before(Refusal::Vertical, Refusal::Direction),
-        before(Refusal::Vertical, Refusal::TickBits),
+        before(Refusal::UnusedByte, Refusal::UndefinedBits),
+        before(Refusal::UnusedByte, Refusal::NotOnChip),
+        before(Refusal::NotOnChip, Refusal::Selector),
+        before(Refusal::NotOnChip, Refusal::Address),
+        before(Refusal::NotOnChip, Refusal::Direction),
+        before(Refusal::NotOnChip, Refusal::UndefinedBits),
     ],
 };
 
@@ -407,12 +407,12 @@ pub static CURRENTS: Table = Table {
     title: "currents on a state",
     rows: &[
         ACCEPTED,
-        row(Refusal::TickBits, "tick bits"),
+        row(Refusal::UndefinedBits, "tick bits"),
         row(Refusal::Value, "state's value above its largest"),
         row(Refusal::CurrentsChip, "another chip, built or not"),
         before(Refusal::CurrentsChip, Refusal::Value),
-        before(Refusal::CurrentsChip, Refusal::TickBits),
-        before(Refusal::Value, Refusal::TickBits),
+        before(Refusal::CurrentsChip, Refusal::UndefinedBits),
+        before(Refusal::Value, Refusal::UndefinedBits),
     ],
 };
 

@@ -14,7 +14,7 @@ pub const RANDOM: &[Class<Case>] = &[
     class("currents: ticks on any state", 200, accepted),
     class("currents: masks, overlays and blinking", 200, shown),
     class("currents: ticks that the chip refuses", 40, |random| {
-        planted(random, &[Refusal::TickBits])
+        planted(random, &[Refusal::UndefinedBits])
     }),
     class("currents: another chip", 40, |random| {
         planted(random, &[Refusal::CurrentsChip])

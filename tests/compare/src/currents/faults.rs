@@ -13,7 +13,7 @@ pub const BEHIND_THE_SNAPSHOT: [Refusal; 5] = [
     Refusal::LogLength,
     Refusal::AnswerBuffer,
     Refusal::EndBuffer,
-    Refusal::TickBits,
+    Refusal::UndefinedBits,
 ];
 
 /// Each fault by itself, and with each that is looked for behind it.
@@ -49,7 +49,7 @@ pub fn planted(random: &mut Random, faults: &[Refusal]) -> Case {
 /// faults of a snapshot.
 fn plant(random: &mut Random, case: &mut Case, fault: Refusal) {
     match fault {
-        Refusal::TickBits => {
+        Refusal::UndefinedBits => {
             let (byte, bits) = random.pick(undefined_tick_bits(CURRENTS_CHIP));
             case.operand[byte] |= random.bit_of(bits);
         }

@@ -188,8 +188,8 @@ static RUN: Table = Table {
         row(Refusal::Selector, "selector over 3"),
         row(Refusal::Address, "overlay or control address"),
         row(Refusal::Direction, "direction"),
-        row(Refusal::TickBits, "undefined bits of a tick or a load"),
-        row(Refusal::Vertical, "an event that the chip doesn't have"),
+        row(Refusal::UndefinedBits, "undefined bits of a tick or a load"),
+        row(Refusal::NotOnChip, "an event that the chip doesn't have"),
     ],
 };
 
@@ -241,7 +241,7 @@ static CURRENTS: Table = Table {
     title: "the tool's currents",
     rows: &[
         ACCEPTED,
-        row(Refusal::TickBits, "tick bits"),
+        row(Refusal::UndefinedBits, "tick bits"),
         row(Refusal::SnapshotShort, "snapshot under 3 bytes"),
         row(Refusal::SnapshotChip, "snapshot's chip"),
         row(Refusal::SnapshotCount, "snapshot's count"),

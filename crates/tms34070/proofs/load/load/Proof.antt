@@ -2,14 +2,14 @@
 use Prim.Native.Nat.{_/_, _%_, _<_}
 use mathlib.Core.Path.{_≡_, refl, sym, _∙_, ap}
 use native.Mathlib.Omega.{arith}
-use lib.ListN.{length, set, length-set}
+use lib.ListN.{length, getD, set, length-set}
 use denote.Ref.{now}
 use Rattle.tms34070.specs.Load.{onward as next-position}
 use Rattle.tms34070.proofs.Stores.{held-state, stored-state}
 use Rattle.tms34070.proofs.Loaded.{load-refused, load-holds, load-stores, accessed}
 use Rattle.tms34070.proofs.Saved.{largest-long, sound-from}
 use Rattle.tms34070.specs.Facts as facts
-use Rattle.tms34070.specs.Places.{behind, stateFrom}
+use Rattle.tms34070.specs.Places.{stateFrom}
 use Rattle.event.proofs.Laws.{refused-bytes, done-bytes}
 use borrow.Author.Needs.{needs}
 use Rattle.tms34070.proofs.load.load.Statement.{statement}
@@ -79,7 +79,7 @@ returns-2 c =
     let put-answer2 = c .before .before .before .before .before .put-answer2 in
     let l = now (args .places) in
     accessed (load-holds _ _ _ (sym (over-nibble .ensures) ∙ if1 .left) (if2 .taken))
-    (ap (λ p. stateFrom (set (set (set l 81 (args .da)) 82 (args .db % 4)) 80 p)) (onward .ensures) ∙ held-state l (pre .0 .long ∙ largest-long) (next-position (behind l 0)) (args .da) (args .db % 4))
+    (ap (λ p. stateFrom (set (set (set l facts.heldRed (args .da)) facts.heldAttributes (args .db % 4)) facts.position p)) (onward .ensures) ∙ held-state l (pre .0 .long ∙ largest-long) (next-position (getD l facts.position 0)) (args .da) (args .db % 4))
     (put-answer2 .ensures ∙ done-bytes)
 
 store-requires : tie.Need-store-requires
@@ -122,9 +122,9 @@ returns-3 c =
     let onward2 = c .onward2 in
     let put-answer2 = c .before .before .before .before .before .before .before .before .before .put-answer2 in
     let l = now (args .places) in
-    let low : behind l 0 / 2 < facts.registers = omega (arith, sound-from l (pre .0) .port .position) in
+    let low : getD l facts.position 0 / 2 < facts.registerCount = omega (arith, sound-from l (pre .0) .port .position) in
     accessed (load-stores _ _ _ (sym (over-nibble .ensures) ∙ if1 .left) (if2 .left))
-    ((λ i. stateFrom (set (store .ensures i) 80 (onward2 .ensures i))) ∙ stored-state l (pre .0 .long ∙ largest-long) (next-position (behind l 0)) (behind l 0 / 2) (behind l 1) (args .da) (args .db) (behind l 2 % 2) (behind l 2 / 2) low)
+    ((λ i. stateFrom (set (store .ensures i) facts.position (onward2 .ensures i))) ∙ stored-state l (pre .0 .long ∙ largest-long) (next-position (getD l facts.position 0)) (getD l facts.position 0 / 2) (getD l facts.heldRed 0) (args .da) (args .db) (getD l facts.heldAttributes 0 % 2) (getD l facts.heldAttributes 0 / 2) low)
     (put-answer2 .ensures ∙ done-bytes)
 
 pub load-spec : {M : Type 1} → statement M

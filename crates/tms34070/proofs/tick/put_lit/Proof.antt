@@ -77,12 +77,12 @@ returns c =
     let l = now (c .before .before .before .before .before .before .before .before .before .before .before .before .before .before .before .before .before .before .before .before .args .places) in
     let long = c .before .before .before .before .before .before .before .before .before .before .before .before .before .before .before .before .before .before .before .before .pre .0 .long ∙ largest-long in
     let n = tick-narrow o (c .before .before .before .before .before .before .before .before .before .before .before .before .before .before .before .before .before .before .before .before .pre .1) in
-    let a-low : getD o 0 0 < facts.registers = omega (arith, n .0 .0) in
-    let b-low : getD o 1 0 < facts.registers = omega (arith, n .0 .1) in
+    let a-low : getD o 0 0 < facts.registerCount = omega (arith, n .0 .0) in
+    let b-low : getD o 1 0 < facts.registerCount = omega (arith, n .0 .1) in
     let s = stateFrom l in
     let da = colourIs (c .before .before .before .before .before .before .before .before .before .before .before .before .colour-at .result) in
     let db = colourIs (c .before .before .before .before .before .before .before .before .before .before .colour-at2 .result) in
-    let is-da = c .before .before .before .before .before .before .before .before .before .before .before .before .colour-at .ensures ∙ ap (colourAt l) (c .before .before .before .before .before .before .before .before .before .before .before .before .before .before .before .before .source .ensures .0) ∙ shown-at l long (getD o 0 0) 83 (s .before) a-low (before-at l long) in
+    let is-da = c .before .before .before .before .before .before .before .before .before .before .before .before .colour-at .ensures ∙ ap (colourAt l) (c .before .before .before .before .before .before .before .before .before .before .before .before .before .before .before .before .source .ensures .0) ∙ shown-at l long (getD o 0 0) facts.before (s .before) a-low (before-at l long) in
     let is-db = c .before .before .before .before .before .before .before .before .before .before .colour-at2 .ensures ∙ ap (colourAt l) (c .before .before .before .before .before .before .before .before .before .before .before .before .before .before .source2 .ensures .0) ∙ shown-at l long (getD o 1 0) (c .before .before .before .before .before .before .before .before .before .before .before .before .before .before .before .before .source .result) da b-low (sym (c .before .before .before .before .before .before .before .before .before .before .before .before .colour-at .ensures)) in
     let shows = c .before .before .before .before .before .before .before .levels .ensures ∙ (λ i. 1 + 2 * sym (ext-at l long (getD o 0 0) a-low) i + 4 * sym (ext-at l long (getD o 1 0) b-low) i) in
     record {

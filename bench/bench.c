@@ -48,6 +48,7 @@ struct chip {
     /* What nearly all events of each kind in a mix become: the kind itself, or
      * another if the chip refuses it. */
     unsigned becomes[PALETTE_KIND_SAVE + 1];
+    double goal; /* of all its mixes, where it has one of its own */
 };
 
 struct input {
@@ -158,6 +159,7 @@ static const struct chip chips[] = {
     {
         .number = PALETTE_CHIP_TMS34070,
         .places = PALETTE_TMS34070_PLACES,
+        .goal = 1.2,
         .make_registers = make_tms34070_registers,
         .make_tick = make_tms34070_tick,
         .becomes = {PALETTE_KIND_LOAD, PALETTE_KIND_LOAD, PALETTE_KIND_TICK, PALETTE_KIND_TICK,
@@ -373,9 +375,9 @@ static bool bench_mixes(unsigned repeats)
                 return false;
             struct times times = measure(repeats);
             double ratio = times.palette / times.plain;
+            double goal = chip->goal > 0 ? chip->goal : mixes[i].goal;
             printf("%4u  %-12s  %14.2f  %20.2f  %5.2f  %4.1f%s\n", chip->number, mixes[i].name,
-                   times.plain, times.palette, ratio, mixes[i].goal,
-                   ratio > mixes[i].goal ? "  missed" : "");
+                   times.plain, times.palette, ratio, goal, ratio > goal ? "  missed" : "");
             fflush(stdout);
         }
     }

@@ -1,7 +1,7 @@
 -- A tick's answer, and the colour that it leaves, case by case.
 use Prim.Native.Nat.{ℕ, zero, suc, _+_, _*_, _≤_}
 use mathlib.Core.Path.{_≡_, refl, sym, _∙_, ap}
-use mathlib.Core.Bool.{Bool, true, false, _||_, false≢true}
+use mathlib.Core.Bool.{true, false}
 use mathlib.Core.List.{List}
 use native.Mathlib.Omega.{arith}
 use borrow.Author.Tests.{ltb-false}
@@ -9,20 +9,16 @@ use lib.Dec.{ltb}
 use lib.ListN.{getD}
 use Rattle.event.specs.Answer.{showed, bytesOf, answerOf}
 use Rattle.event.proofs.Laws.{refused-bytes}
+use Rattle.tms34070.specs.Facts as facts
 use Rattle.tms34070.specs.State.{Colour, black}
 use Rattle.tms34070.specs.Load.{overNibble}
 use Rattle.tms34070.specs.Tick.{extOf, shown, first, second, levels, refusedTick, codesOf, tick, after}
-use Rattle.tms34070.proofs.Sound.{narrow}
+use Rattle.tms34070.proofs.Sound.{neither, narrow}
 
 -- a tick that isn't refused has two pixels of four bits and a level of one
-pub tick-narrow : (o : List ℕ) → refusedTick o ≡ false → ((getD o 0 0 ≤ 15) × (getD o 1 0 ≤ 15)) × (getD o 7 0 ≤ 1)
+pub tick-narrow : (o : List ℕ) → refusedTick o ≡ false → ((getD o 0 0 ≤ facts.largestNibble) × (getD o 1 0 ≤ facts.largestNibble)) × (getD o 7 0 ≤ 1)
 unfolding refusedTick
-tick-narrow o h = go (overNibble (getD o 0 0) (getD o 1 0)) (ltb 1 (getD o 7 0)) refl refl h
-  where
-    go : (x y : Bool) → overNibble (getD o 0 0) (getD o 1 0) ≡ x → ltb 1 (getD o 7 0) ≡ y → (x || y) ≡ false → ((getD o 0 0 ≤ 15) × (getD o 1 0 ≤ 15)) × (getD o 7 0 ≤ 1)
-    go true y p q z = absurd (false≢true (sym z))
-    go false true p q z = absurd (false≢true (sym z))
-    go false false p q z = (narrow _ _ p, ltb-false _ _ q)
+tick-narrow o h = let n = neither (overNibble (getD o 0 0) (getD o 1 0)) (ltb 1 (getD o 7 0)) h in (narrow _ _ (n .0), ltb-false _ _ (n .1))
 
 -- and where the level isn't 0 it is 1
 pub level-high : (o : List ℕ) → refusedTick o ≡ false → (getD o 7 0 ≡ 0 → ⊥) → getD o 7 0 ≡ 1

@@ -63,15 +63,15 @@ largest-red n h = let e : 5 * n ≡ 5 * n + 0 = omega arith in ap (λ i. getD fa
 
 -- ---- loads
 
+-- neither of two tests
+pub neither : (a b : Bool) → (a || b) ≡ false → (a ≡ false) × (b ≡ false)
+neither true b e = absurd (false≢true (sym e))
+neither false b e = (refl, e)
+
 -- DA and DB have four bits each
 pub narrow : (da db : ℕ) → overNibble da db ≡ false → (da ≤ facts.largestNibble) × (db ≤ facts.largestNibble)
 unfolding overNibble
-narrow da db h = go (ltb 15 da) (ltb 15 db) refl refl h
-  where
-    go : (x y : Bool) → ltb 15 da ≡ x → ltb 15 db ≡ y → (x || y) ≡ false → (da ≤ 15) × (db ≤ 15)
-    go true y p q z = absurd (false≢true (sym z))
-    go false true p q z = absurd (false≢true (sym z))
-    go false false p q z = (ltb-false _ _ p, ltb-false _ _ q)
+narrow da db h = let n = neither (ltb facts.largestNibble da) (ltb facts.largestNibble db) h in (ltb-false _ _ (n .0), ltb-false _ _ (n .1))
 
 -- what an access stores is within its place's bounds
 abbrev Stores : Access → Type 0
@@ -149,14 +149,10 @@ module _ (p : Port) (v : SoundPort p) where
   unfolding after second first refusedTick
   sound-after c o w =
       cond-by SoundColour (overNibble (getD o 0 0) (getD o 1 0) || ltb 1 (getD o 7 0)) _ _ (λ t. w)
-      (λ f. let both = narrow _ _ (neither (overNibble (getD o 0 0) (getD o 1 0)) _ f) in
+      (λ f. let both = narrow _ _ (neither (overNibble (getD o 0 0) (getD o 1 0)) _ f .0) in
       cond-all SoundColour (daten o) _ _
       (sound-shown _ (getD o 1 0) (both .1) (cond-all SoundColour (daten o) _ _ (sound-shown c (getD o 0 0) (both .0) w) sound-black))
       sound-black)
-    where
-      neither : (x y : Bool) → (x || y) ≡ false → x ≡ false
-      neither true y z = z
-      neither false y z = refl
 
   pub sound-advance : (c : Colour) (e : Raw) → SoundColour c → SoundColour (beforeNext p c e)
   sound-advance c e w = cond-all SoundColour (eqb (e .kind) kinds.tick) _ _ (sound-after c (e .operand) w) w

@@ -85,7 +85,7 @@ fn put_pixels(part: &mut [u8], levels: u8, da: Colour, db: Colour)
 // The colour before, from now on.
 fn keep(places: &mut [u8], c: Colour)
     requires { ⌜ length (now places) ≡ facts.places ⌝ }
-    ensures { λ _. ⌜ now (places .exit) ≡ set (set (set (now (places .entry)) (facts.before) (c .red)) (facts.before + 1) (c .green)) (facts.before + 2) (c .blue) ⌝ }
+    ensures { λ _. ⌜ now (places .exit) ≡ set (set (set (now (places .entry)) facts.before (c .red)) (facts.before + 1) (c .green)) (facts.before + 2) (c .blue) ⌝ }
 {
     places[BEFORE] = c.red;
     places[BEFORE + 1] = c.green;
@@ -95,7 +95,7 @@ fn keep(places: &mut [u8], c: Colour)
 // Black is the colour before, from now on.
 fn darken(places: &mut [u8])
     requires { ⌜ length (now places) ≡ facts.places ⌝ }
-    ensures { λ _. ⌜ now (places .exit) ≡ set (set (set (now (places .entry)) (facts.before) 0) (facts.before + 1) 0) (facts.before + 2) 0 ⌝ }
+    ensures { λ _. ⌜ now (places .exit) ≡ set (set (set (now (places .entry)) facts.before 0) (facts.before + 1) 0) (facts.before + 2) 0 ⌝ }
 {
     places[BEFORE] = 0;
     places[BEFORE + 1] = 0;

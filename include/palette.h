@@ -19,7 +19,7 @@ extern "C" {
 /* The version: three numbers for #if, and the text "major.minor.patch". */
 #define PALETTE_VERSION_MAJOR 0
 #define PALETTE_VERSION_MINOR 4
-#define PALETTE_VERSION_PATCH 0
+#define PALETTE_VERSION_PATCH 1
 #define PALETTE_VERSION                                                        \
     PALETTE_VERSION_TEXT(PALETTE_VERSION_MAJOR, PALETTE_VERSION_MINOR,         \
                          PALETTE_VERSION_PATCH)

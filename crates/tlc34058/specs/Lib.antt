@@ -1,8 +1,9 @@
--- TLC34058, document 01's chip 1: its numbers, its state, its port, its tick, its places, and the machine that they make.
+-- TLC34058, document 01's chip 1: its numbers, its state, its port, its tick, one pixel's selection step by step, its places, and the machine that they make.
 pub mod Facts
 pub mod State
 pub mod Port
 pub mod Tick
+pub mod Selection
 pub mod Places
 pub mod Machine
 pub mod Struct

@@ -1,11 +1,13 @@
 // A tick: the selection of each pixel's entry, and the codes written straight into the answer's part.
 ghost use mathlib.Core.Path.{_≡_};
+ghost use mathlib.Core.Bool.{not, _&&_, _||_};
 ghost use mathlib.Core.List.{_++_};
-ghost use Prim.Native.Nat.{_+_, _*_, _≤_, _<_};
+ghost use Prim.Native.Nat.{_<_};
 ghost use lib.ListN.{length, take};
 ghost use Rattle.event.specs.Answer.{answerLong, bytesOf};
 ghost use Rattle.tlc34058.specs.Facts as facts;
-ghost use Rattle.tlc34058.specs.Tick.{pixelCount, blinkOn, maskedPixel, overlayBit, entryOf, codeOf, codeAt, codesUpTo, shownPixels, undefinedBits, tick};
+ghost use Rattle.tlc34058.specs.Tick.{pixelCount, blinkOn, entryOf, codeOf, codeAt, codesUpTo, shownPixels, undefinedBits, tick};
+ghost use Rattle.tlc34058.specs.Selection.{pixelOf, afterReadMask, afterBlinkMask, afterOverlayEnables, afterOverlayBlink, entryByRamEnable};
 ghost use Rattle.tlc34058.specs.Struct.{registersOf, joined};
 ghost use Rattle.tlc34058.specs.Codes.{CodesAre};
 use crate::Control;
@@ -33,51 +35,118 @@ fn blink_on(command: u8, n: u8) -> bool
     n % 64 < 16
 }
 
-// The pixel bits that the read mask and, with blink off, the blink mask leave.
-fn masked_pixel(c: Control, on: bool, pixel: u8) -> u8
-    ensures { λ r. ⌜ r ≡ maskedPixel (registersOf c) on pixel ⌝ }
-{
-    let seen = bytes::masked(pixel, c.read_mask);
-    if on {
-        return seen;
-    }
-    bytes::masked(seen, 255 - c.blink_mask)
+// A pixel on its way through the selection: its bits and its two overlay bits.
+struct Pixel {
+    bits: u8,
+    ol0: bool,
+    ol1: bool,
 }
 
-// An overlay bit that its enable and its blink bit leave.
-fn overlay_bit(enable: bool, blinks: bool, on: bool, given: bool) -> u8
-    ensures { λ r. ⌜ (r ≡ overlayBit enable blinks on given) × (r ≤ 1) ⌝ }
+// An overlay bit where its enable bit is 1, 0 where it isn't.
+fn if_enabled(given: bool, enable: bool) -> bool
+    ensures { λ r. ⌜ r ≡ given && enable ⌝ }
 {
     if given {
-        if enable {
-            if on {
-                return 1;
-            }
-            if blinks {
-                return 0;
-            }
-            return 1;
-        }
-        return 0;
+        return enable;
     }
-    0
+    false
+}
+
+// An overlay bit, but 0 where its blink bit is 1 and blink is off.
+fn if_lit(given: bool, blinks: bool, on: bool) -> bool
+    ensures { λ r. ⌜ r ≡ given && (on || not blinks) ⌝ }
+{
+    if given {
+        if on {
+            return true;
+        }
+        return !blinks;
+    }
+    false
+}
+
+// The steps of the selection, in the order of specs/Selection.antt. Each gives the pixel as it leaves it, the last one the entry.
+
+// The read mask: planes with a 0 in it become 0.
+fn after_read_mask(c: Control, p: Pixel) -> Pixel
+    ensures { λ r. ⌜ pixelOf r ≡ afterReadMask (registersOf c) (pixelOf p) ⌝ }
+{
+    Pixel {
+        bits: bytes::masked(p.bits, c.read_mask),
+        ol0: p.ol0,
+        ol1: p.ol1,
+    }
+}
+
+// The blink mask: with blink off, planes with a 1 in it become 0.
+fn after_blink_mask(c: Control, on: bool, p: Pixel) -> Pixel
+    ensures { λ r. ⌜ pixelOf r ≡ afterBlinkMask (registersOf c) on (pixelOf p) ⌝ }
+{
+    if on {
+        return p;
+    }
+    Pixel {
+        bits: bytes::masked(p.bits, 255 - c.blink_mask),
+        ol0: p.ol0,
+        ol1: p.ol1,
+    }
+}
+
+// The overlay enables: CR0 of OL0, CR1 of OL1.
+fn after_overlay_enables(c: Control, p: Pixel) -> Pixel
+    ensures { λ r. ⌜ pixelOf r ≡ afterOverlayEnables (registersOf c) (pixelOf p) ⌝ }
+{
+    Pixel {
+        bits: p.bits,
+        ol0: if_enabled(p.ol0, c.command % 2 == 1),
+        ol1: if_enabled(p.ol1, c.command / 2 % 2 == 1),
+    }
+}
+
+// The overlay blink: CR2 of OL0, CR3 of OL1.
+fn after_overlay_blink(c: Control, on: bool, p: Pixel) -> Pixel
+    ensures { λ r. ⌜ pixelOf r ≡ afterOverlayBlink (registersOf c) on (pixelOf p) ⌝ }
+{
+    Pixel {
+        bits: p.bits,
+        ol0: if_lit(p.ol0, c.command / 4 % 2 == 1, on),
+        ol1: if_lit(p.ol1, c.command / 8 % 2 == 1, on),
+    }
+}
+
+// The RAM enable, CR6. Overlays 0 to 3 are entries 256 to 259.
+fn entry_by_ram_enable(c: Control, p: Pixel) -> usize
+    ensures { λ r. ⌜ (r ≡ entryByRamEnable (registersOf c) (pixelOf p)) × (r < 260) ⌝ }
+{
+    if p.ol1 {
+        if p.ol0 {
+            return 259;
+        }
+        return 258;
+    }
+    if p.ol0 {
+        return 257;
+    }
+    if c.command / 64 % 2 == 1 {
+        return bytes::wide(p.bits);
+    }
+    256
 }
 
 // The entry that a pixel shows.
 fn entry_of(c: Control, on: bool, pixel: u8, ol0: bool, ol1: bool) -> usize
     ensures { λ r. ⌜ (r ≡ entryOf (registersOf c) on pixel ol0 ol1) × (r < 260) ⌝ }
 {
-    let command = c.command;
-    let b0 = overlay_bit(command % 2 == 1, command / 4 % 2 == 1, on, ol0);
-    let b1 = overlay_bit(command / 2 % 2 == 1, command / 8 % 2 == 1, on, ol1);
-    let k = 2 * b1 + b0;
-    if k == 0 {
-        if command / 64 % 2 == 1 {
-            return bytes::wide(masked_pixel(c, on, pixel));
-        }
-        return 256;
-    }
-    256 + bytes::wide(k)
+    let given = Pixel {
+        bits: pixel,
+        ol0,
+        ol1,
+    };
+    let masked = after_read_mask(c, given);
+    let lit = after_blink_mask(c, on, masked);
+    let enabled = after_overlay_enables(c, lit);
+    let shown = after_overlay_blink(c, on, enabled);
+    entry_by_ram_enable(c, shown)
 }
 
 // The codes of a pixel, black where it isn't shown.

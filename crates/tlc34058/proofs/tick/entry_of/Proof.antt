@@ -1,74 +1,48 @@
--- `entry_of` meets its contract.
-use Rattle.tlc34058.specs.Tick.{entryOf}
-use borrow.Author.Tests.{eq-eqb, ne-eqb}
-use native.Mathlib.Nat.{div-one}
-use mathlib.Core.Path.{sym}
+-- `entry_of` meets its contract: the five steps in order are the entry rule.
+use Rattle.tlc34058.proofs.Selection.{in-order}
+use Rattle.tlc34058.specs.Selection.{afterBlinkMask, afterOverlayEnables, afterOverlayBlink, entryByRamEnable, selected}
+use Rattle.tlc34058.specs.Struct.{registersOf}
+use mathlib.Core.Path.{_∙_, ap}
 use borrow.Author.Needs.{needs}
 use Rattle.tlc34058.proofs.tick.entry_of.Statement.{statement}
 use Rattle.tlc34058.proofs.tick.entry_of.Tie as tie
 
-overlay-bit-requires : tie.Need-overlay-bit-requires
-overlay-bit-requires c κs = search needs
+after-read-mask-requires : tie.Need-after-read-mask-requires
+after-read-mask-requires c κs = search needs
 
-overlay-bit-requires-2 : tie.Need-overlay-bit-requires-2
-overlay-bit-requires-2 c κs = search needs
+after-blink-mask-requires : tie.Need-after-blink-mask-requires
+after-blink-mask-requires c κs = search needs
 
-mul-k : tie.Need-mul-k
-mul-k c = search needs
+after-overlay-enables-requires : tie.Need-after-overlay-enables-requires
+after-overlay-enables-requires c κs = search needs
 
-add-k : tie.Need-add-k
-add-k c = search needs
+after-overlay-blink-requires : tie.Need-after-overlay-blink-requires
+after-overlay-blink-requires c κs = search needs
 
-masked-pixel-requires : tie.Need-masked-pixel-requires
-masked-pixel-requires c κs = search needs
-
-wide-requires : tie.Need-wide-requires
-wide-requires c κs = search needs
+entry-by-ram-enable-requires : tie.Need-entry-by-ram-enable-requires
+entry-by-ram-enable-requires c κs = search needs
 
 returns : tie.Need-returns
-unfolding entryOf
+unfolding selected
 returns c =
-    let overlay-bit = c .before .before .before .before .before .overlay-bit in
-    let overlay-bit2 = c .before .before .before .before .overlay-bit2 in
-    let if1 = c .before .before .before .if1 in
-    let if2 = c .before .before .if2 in
-    let masked-pixel = c .before .masked-pixel in
-    (simp (div-one, sym (overlay-bit .ensures .0), sym (overlay-bit2 .ensures .0), eq-eqb _ _ (if1 .taken), eq-eqb _ _ (if2 .taken), c .wide .ensures .0, masked-pixel .ensures), search needs)
-
-returns-2 : tie.Need-returns-2
-unfolding entryOf
-returns-2 c =
-    let overlay-bit = c .before .before .before .overlay-bit in
-    let overlay-bit2 = c .before .before .overlay-bit2 in
-    let if1 = c .before .if1 in
-    (simp (div-one, sym (overlay-bit .ensures .0), sym (overlay-bit2 .ensures .0), eq-eqb _ _ (if1 .taken), ne-eqb _ _ (c .if2 .left), if1 .taken), search needs)
-
-wide-requires-2 : tie.Need-wide-requires-2
-wide-requires-2 c κs = search needs
-
-add-result : tie.Need-add-result
-add-result c = search needs
-
-returns-3 : tie.Need-returns-3
-unfolding entryOf
-returns-3 c =
-    let overlay-bit = c .before .before .before .overlay-bit in
-    let overlay-bit2 = c .before .before .overlay-bit2 in
-    let if1 = c .before .if1 in
-    (simp (div-one, sym (overlay-bit .ensures .0), sym (overlay-bit2 .ensures .0), ne-eqb _ _ (if1 .left), c .wide2 .ensures .0), search needs)
+    let args = c .before .before .before .before .before .args in
+    let masked = c .before .before .before .before .after-read-mask .ensures in
+    let lit = c .before .before .before .after-blink-mask .ensures in
+    let enabled = c .before .before .after-overlay-enables .ensures in
+    let shown = c .before .after-overlay-blink .ensures in
+    let entry = c .entry-by-ram-enable .ensures in
+    let r = registersOf (args .c) in
+    let on = args .on in
+    let steps = shown ∙ ap (afterOverlayBlink r on) (enabled ∙ ap (afterOverlayEnables r) (lit ∙ ap (afterBlinkMask r on) masked)) in
+    (entry .0 ∙ ap (entryByRamEnable r) steps ∙ in-order r on (args .pixel) (args .ol0) (args .ol1), entry .1)
 
 pub entry-of-spec : {M : Type 1} → statement M
 entry-of-spec =
     tie.close
     (tie.spec
-    overlay-bit-requires
-    overlay-bit-requires-2
-    mul-k
-    add-k
-    masked-pixel-requires
-    wide-requires
-    returns
-    returns-2
-    wide-requires-2
-    add-result
-    returns-3)
+    after-read-mask-requires
+    after-blink-mask-requires
+    after-overlay-enables-requires
+    after-overlay-blink-requires
+    entry-by-ram-enable-requires
+    returns)

@@ -9,26 +9,30 @@ use lib.Bits.{bitAnd, and-shr, and-mod}
 use Rattle.event.specs.Event.{bit}
 use Rattle.tlc34058.specs.State.{Registers}
 use Rattle.tlc34058.specs.Tick.{maskedPixel, overlayBit, entryOf}
-use Rattle.tlc34058.specs.Selection.{Pixel, selected, InOrder, EachPlane}
+use Rattle.tlc34058.specs.Selection.{Pixel, afterReadMask, afterBlinkMask, afterOverlayEnables, afterOverlayBlink, overlayNumber, entryByRamEnable, selected, InOrder, EachPlane}
 
--- Table 5, and document 01's k = 2 × OL1 + OL0
-numbered : (ol0 ol1 ram : Bool) (pixel : ℕ) →
-    cond (ram && (not ol1 && not ol0)) pixel (256 + cond ol1 (cond ol0 3 2) (cond ol0 1 0))
-    ≡ cond (eqb (2 * cond ol1 1 0 + cond ol0 1 0) 0 && ram) pixel (256 + (2 * cond ol1 1 0 + cond ol0 1 0))
-numbered true true true pixel = refl
-numbered true true false pixel = refl
-numbered false true true pixel = refl
-numbered false true false pixel = refl
-numbered true false true pixel = refl
-numbered true false false pixel = refl
-numbered false false true pixel = refl
-numbered false false false pixel = refl
+-- the last step by the overlay's number: it is 0 where both overlay bits are low
+pub by-number : (r : Registers) (p : Pixel) (k : ℕ) → k ≡ overlayNumber p → cond (eqb k 0 && bit 6 (r .command)) (p .bits) (256 + k) ≡ entryByRamEnable r p
+by-number r p k e = ap (λ k. cond (eqb k 0 && bit 6 (r .command)) (p .bits) (256 + k)) e ∙ ap (λ b. cond (b && bit 6 (r .command)) (p .bits) (256 + overlayNumber p)) (none (p .ol0) (p .ol1))
+  where
+    none : (ol0 ol1 : Bool) → eqb (cond ol1 (cond ol0 3 2) (cond ol0 1 0)) 0 ≡ (not ol1 && not ol0)
+    none true true = refl
+    none false true = refl
+    none true false = refl
+    none false false = refl
+
+-- Table 5's number is document 01's k = 2 × OL1 + OL0
+numbered : (ol0 ol1 : Bool) → 2 * cond ol1 1 0 + cond ol0 1 0 ≡ cond ol1 (cond ol0 3 2) (cond ol0 1 0)
+numbered true true = refl
+numbered false true = refl
+numbered true false = refl
+numbered false false = refl
 
 pub in-order : InOrder
 unfolding selected entryOf maskedPixel overlayBit
 in-order r on pixel ol0 ol1 =
-    let left : ℕ → ℕ → Bool → Bool = λ enable blink ol. (ol && bit enable (r .command)) && (on || not (bit blink (r .command))) in
-    numbered (left 0 2 ol0) (left 1 3 ol1) (bit 6 (r .command)) (maskedPixel r on pixel)
+    let shown = afterOverlayBlink r on (afterOverlayEnables r (afterBlinkMask r on (afterReadMask r (record { bits = pixel; ol0 = ol0; ol1 = ol1 })))) in
+    sym (by-number r shown (2 * cond (shown .ol1) 1 0 + cond (shown .ol0) 1 0) (numbered (shown .ol0) (shown .ol1)))
 
 -- ---- bit planes
 

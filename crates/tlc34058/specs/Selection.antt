@@ -30,11 +30,13 @@ afterOverlayEnables r p = record { bits = p .bits; ol0 = p .ol0 && bit 0 (r .com
 abbrev pub afterOverlayBlink : Registers → Bool → Pixel → Pixel
 afterOverlayBlink r on p = record { bits = p .bits; ol0 = p .ol0 && (on || not (bit 2 (r .command))); ol1 = p .ol1 && (on || not (bit 3 (r .command))) }
 
--- 5. The RAM enable, CR6, and Table 5: with CR6 high and both OL1 and OL0 low the palette entry at P7–P0; with CR6 low or either of them high the overlay register of their number, which stands behind the 256 palette entries.
+-- the overlay register that OL1 and OL0 select, by Table 5
+abbrev pub overlayNumber : Pixel → ℕ
+overlayNumber p = cond (p .ol1) (cond (p .ol0) 3 2) (cond (p .ol0) 1 0)
+
+-- 5. The RAM enable, CR6: with OL1 and OL0 both low and CR6 high the palette entry at P7–P0; with either of them high or CR6 low the overlay register, which stands behind the 256 palette entries.
 abbrev pub entryByRamEnable : Registers → Pixel → ℕ
-entryByRamEnable r p =
-    cond (bit 6 (r .command) && (not (p .ol1) && not (p .ol0))) (p .bits)
-    (256 + cond (p .ol1) (cond (p .ol0) 3 2) (cond (p .ol0) 1 0))
+entryByRamEnable r p = cond ((not (p .ol1) && not (p .ol0)) && bit 6 (r .command)) (p .bits) (256 + overlayNumber p)
 
 -- the five steps in order
 unfoldable pub selected : Registers → Bool → Pixel → ℕ

@@ -2,12 +2,12 @@
 ghost use mathlib.Core.Path.{_≡_};
 ghost use mathlib.Core.Bool.{not, _&&_, _||_};
 ghost use mathlib.Core.List.{_++_};
-ghost use Prim.Native.Nat.{_<_};
+ghost use Prim.Native.Nat.{_≤_, _<_};
 ghost use lib.ListN.{length, take};
 ghost use Rattle.event.specs.Answer.{answerLong, bytesOf};
 ghost use Rattle.tlc34058.specs.Facts as facts;
 ghost use Rattle.tlc34058.specs.Tick.{pixelCount, blinkOn, entryOf, codeOf, codeAt, codesUpTo, shownPixels, undefinedBits, tick};
-ghost use Rattle.tlc34058.specs.Selection.{pixelOf, afterReadMask, afterBlinkMask, afterOverlayEnables, afterOverlayBlink, entryByRamEnable};
+ghost use Rattle.tlc34058.specs.Selection.{pixelOf, afterReadMask, afterBlinkMask, afterOverlayEnables, afterOverlayBlink, overlayNumber, entryByRamEnable};
 ghost use Rattle.tlc34058.specs.Struct.{registersOf, joined};
 ghost use Rattle.tlc34058.specs.Codes.{CodesAre};
 use crate::Control;
@@ -38,8 +38,8 @@ fn blink_on(command: u8, n: u8) -> bool
 // A pixel on its way through the selection: its bits and its two overlay bits.
 struct Pixel {
     bits: u8,
-    ol0: bool,
     ol1: bool,
+    ol0: bool,
 }
 
 // An overlay bit where its enable bit is 1, 0 where it isn't.
@@ -73,8 +73,8 @@ fn after_read_mask(c: Control, p: Pixel) -> Pixel
 {
     Pixel {
         bits: bytes::masked(p.bits, c.read_mask),
-        ol0: p.ol0,
         ol1: p.ol1,
+        ol0: p.ol0,
     }
 }
 
@@ -87,50 +87,61 @@ fn after_blink_mask(c: Control, on: bool, p: Pixel) -> Pixel
     }
     Pixel {
         bits: bytes::masked(p.bits, 255 - c.blink_mask),
-        ol0: p.ol0,
         ol1: p.ol1,
+        ol0: p.ol0,
     }
 }
 
-// The overlay enables: CR0 of OL0, CR1 of OL1.
+// The overlay enables: CR1 of OL1, CR0 of OL0.
 fn after_overlay_enables(c: Control, p: Pixel) -> Pixel
     ensures { λ r. ⌜ pixelOf r ≡ afterOverlayEnables (registersOf c) (pixelOf p) ⌝ }
 {
     Pixel {
         bits: p.bits,
-        ol0: if_enabled(p.ol0, c.command % 2 == 1),
         ol1: if_enabled(p.ol1, c.command / 2 % 2 == 1),
+        ol0: if_enabled(p.ol0, c.command % 2 == 1),
     }
 }
 
-// The overlay blink: CR2 of OL0, CR3 of OL1.
+// The overlay blink: CR3 of OL1, CR2 of OL0.
 fn after_overlay_blink(c: Control, on: bool, p: Pixel) -> Pixel
     ensures { λ r. ⌜ pixelOf r ≡ afterOverlayBlink (registersOf c) on (pixelOf p) ⌝ }
 {
     Pixel {
         bits: p.bits,
-        ol0: if_lit(p.ol0, c.command / 4 % 2 == 1, on),
         ol1: if_lit(p.ol1, c.command / 8 % 2 == 1, on),
+        ol0: if_lit(p.ol0, c.command / 4 % 2 == 1, on),
     }
 }
 
-// The RAM enable, CR6. Overlays 0 to 3 are entries 256 to 259.
-fn entry_by_ram_enable(c: Control, p: Pixel) -> usize
-    ensures { λ r. ⌜ (r ≡ entryByRamEnable (registersOf c) (pixelOf p)) × (r < 260) ⌝ }
+// The overlay that the overlay bits select.
+fn overlay_number(p: Pixel) -> u8
+    ensures { λ r. ⌜ (r ≡ overlayNumber (pixelOf p)) × (r ≤ 3) ⌝ }
 {
     if p.ol1 {
         if p.ol0 {
-            return 259;
+            return 3;
         }
-        return 258;
+        return 2;
     }
     if p.ol0 {
-        return 257;
+        return 1;
     }
+    0
+}
+
+// The RAM enable, CR6. The overlays stand behind the 256 palette entries.
+fn entry_by_ram_enable(c: Control, p: Pixel) -> usize
+    ensures { λ r. ⌜ (r ≡ entryByRamEnable (registersOf c) (pixelOf p)) × (r < 260) ⌝ }
+{
+    let k = overlay_number(p);
     if c.command / 64 % 2 == 1 {
-        return bytes::wide(p.bits);
+        if k == 0 {
+            return bytes::wide(p.bits);
+        }
+        return 256 + bytes::wide(k);
     }
-    256
+    256 + bytes::wide(k)
 }
 
 // The entry that a pixel shows.
@@ -139,8 +150,8 @@ fn entry_of(c: Control, on: bool, pixel: u8, ol0: bool, ol1: bool) -> usize
 {
     let given = Pixel {
         bits: pixel,
-        ol0,
         ol1,
+        ol0,
     };
     let masked = after_read_mask(c, given);
     let lit = after_blink_mask(c, on, masked);

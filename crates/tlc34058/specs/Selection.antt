@@ -1,4 +1,4 @@
--- Source document 000's "color selection" of one pixel, a step at a time, in the order of document 02's Note 4. Each step is what its paragraph there says of the pixel bits P0–P7 and the overlay bits OL0 and OL1.
+-- Source document 000's "color selection" of one pixel, a step at a time, in the order of document 02's Note 4. Each step is what the paragraph of its register, or its row of Table 7, says of the pixel bits P0–P7 and the overlay bits OL0 and OL1.
 use Prim.Native.Nat.{ℕ, _+_, _-_, _<_}
 use mathlib.Core.Path.{_≡_}
 use mathlib.Core.Bool.{Bool, not, cond, _&&_, _||_}

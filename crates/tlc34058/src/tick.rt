@@ -35,7 +35,7 @@ fn blink_on(command: u8, n: u8) -> bool
     n % 64 < 16
 }
 
-// A pixel on its way through the selection: its bits and its two overlay bits.
+// A pixel on its way through the selection: its bits and its two overlay bits. OL1 comes first, here and where one is made: docs/DECISIONS.md 88.
 struct Pixel {
     bits: u8,
     ol1: bool,
@@ -65,6 +65,22 @@ fn if_lit(given: bool, blinks: bool, on: bool) -> bool
     false
 }
 
+// The overlay that the overlay bits select.
+fn overlay_number(p: Pixel) -> u8
+    ensures { λ r. ⌜ (r ≡ overlayNumber (pixelOf p)) × (r ≤ 3) ⌝ }
+{
+    if p.ol1 {
+        if p.ol0 {
+            return 3;
+        }
+        return 2;
+    }
+    if p.ol0 {
+        return 1;
+    }
+    0
+}
+
 // The steps of the selection, in the order of specs/Selection.antt. Each gives the pixel as it leaves it, the last one the entry.
 
 // The read mask: planes with a 0 in it become 0.
@@ -92,7 +108,7 @@ fn after_blink_mask(c: Control, on: bool, p: Pixel) -> Pixel
     }
 }
 
-// The overlay enables: CR1 of OL1, CR0 of OL0.
+// The overlay enables: CR1 for OL1, CR0 for OL0.
 fn after_overlay_enables(c: Control, p: Pixel) -> Pixel
     ensures { λ r. ⌜ pixelOf r ≡ afterOverlayEnables (registersOf c) (pixelOf p) ⌝ }
 {
@@ -103,7 +119,7 @@ fn after_overlay_enables(c: Control, p: Pixel) -> Pixel
     }
 }
 
-// The overlay blink: CR3 of OL1, CR2 of OL0.
+// The overlay blink: CR3 for OL1, CR2 for OL0.
 fn after_overlay_blink(c: Control, on: bool, p: Pixel) -> Pixel
     ensures { λ r. ⌜ pixelOf r ≡ afterOverlayBlink (registersOf c) on (pixelOf p) ⌝ }
 {
@@ -112,22 +128,6 @@ fn after_overlay_blink(c: Control, on: bool, p: Pixel) -> Pixel
         ol1: if_lit(p.ol1, c.command / 8 % 2 == 1, on),
         ol0: if_lit(p.ol0, c.command / 4 % 2 == 1, on),
     }
-}
-
-// The overlay that the overlay bits select.
-fn overlay_number(p: Pixel) -> u8
-    ensures { λ r. ⌜ (r ≡ overlayNumber (pixelOf p)) × (r ≤ 3) ⌝ }
-{
-    if p.ol1 {
-        if p.ol0 {
-            return 3;
-        }
-        return 2;
-    }
-    if p.ol0 {
-        return 1;
-    }
-    0
 }
 
 // The RAM enable, CR6. The overlays stand behind the 256 palette entries.

@@ -179,6 +179,33 @@ fn ticks_inside_registers() -> Vec<Event> {
     events
 }
 
+/// Chip 1's selection: under each CR0 to CR3 and CR6, with blink on and off, a
+/// tick whose pixels have every pair of overlay bits, and a plane that the read
+/// mask disables and one that blinks.
+fn selections() -> Vec<Event> {
+    let mut events = vec![write(0, 0)];
+    events.extend((1..=12).map(|byte| write(3, byte)));
+    for entry in [1, 5] {
+        events.push(write(0, entry));
+        events.extend((0..3).map(|component| write(1, 20 * entry + component)));
+    }
+    let [read_mask, blink_mask] = [0x07, 0x04];
+    events.extend([write(0, 4), write(2, read_mask)]);
+    events.extend([write(0, 5), write(2, blink_mask)]);
+    events.push(write(0, 6));
+    let pairs = tick([0x0D, 0x0D, 0x0D, 0x0D, 0, 0b0101, 0b0011, 1]);
+    // Rate 00: blink is on for 16 vertical periods, then off.
+    for periods in [0, 16] {
+        events.extend(vec![vertical(); periods]);
+        for overlays in 0..16 {
+            for ram_enable in [0x00, 0x40] {
+                events.extend([write(2, ram_enable + overlays), pairs]);
+            }
+        }
+    }
+    events
+}
+
 /// What can stand inside an entry's accesses, and the sample's name.
 fn inside_entries(chip: u8) -> (&'static str, Vec<Event>) {
     match chip {
@@ -191,8 +218,8 @@ fn inside_entries(chip: u8) -> (&'static str, Vec<Event>) {
 /// Logs for a run without proof, which an interpreter plays too: for each chip
 /// an accepted log and one of no events, whose end snapshot is the fresh
 /// chip's, one event of each kind with no operand byte 0, then logs with each
-/// refusal; of chip 1 the header of a log at the limit and past it, and the
-/// longest log with a byte more.
+/// refusal; of chip 1 its selection, the header of a log at the limit and past
+/// it, and the longest log with a byte more.
 pub fn samples(random: &mut Random) -> Vec<(String, Vec<u8>)> {
     let mut samples = Vec::new();
     for chip in CHIPS {
@@ -213,6 +240,7 @@ pub fn samples(random: &mut Random) -> Vec<(String, Vec<u8>)> {
             samples.push((name, damaged_log(random, chip, fault)));
         }
     }
+    samples.push(("selections-chip-1".into(), log_bytes(1, &selections())));
     for count in [MOST_EVENTS, MOST_EVENTS + 1] {
         let header = [&[1][..], &(count as u32).to_le_bytes()].concat();
         samples.push((format!("header-of-{count}-events"), header));

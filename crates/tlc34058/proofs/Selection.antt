@@ -9,30 +9,26 @@ use lib.Bits.{bitAnd, and-shr, and-mod}
 use Rattle.event.specs.Event.{bit}
 use Rattle.tlc34058.specs.State.{Registers}
 use Rattle.tlc34058.specs.Tick.{maskedPixel, overlayBit, entryOf}
-use Rattle.tlc34058.specs.Selection.{Pixel, afterReadMask, afterBlinkMask, afterOverlayEnables, afterOverlayBlink, overlayNumber, entryByRamEnable, selected, InOrder, EachPlane}
+use Rattle.tlc34058.specs.Selection.{Pixel, afterReadMask, afterBlinkMask, afterOverlayEnables, afterOverlayBlink, selected, InOrder, EachPlane}
 
--- the last step by the overlay's number: it is 0 where both overlay bits are low
-pub by-number : (r : Registers) (p : Pixel) (k : ℕ) → k ≡ overlayNumber p → cond (eqb k 0 && bit 6 (r .command)) (p .bits) (256 + k) ≡ entryByRamEnable r p
-by-number r p k e = ap (λ k. cond (eqb k 0 && bit 6 (r .command)) (p .bits) (256 + k)) e ∙ ap (λ b. cond (b && bit 6 (r .command)) (p .bits) (256 + overlayNumber p)) (none (p .ol0) (p .ol1))
-  where
-    none : (ol0 ol1 : Bool) → eqb (cond ol1 (cond ol0 3 2) (cond ol0 1 0)) 0 ≡ (not ol1 && not ol0)
-    none true true = refl
-    none false true = refl
-    none true false = refl
-    none false false = refl
-
--- Table 5's number is document 01's k = 2 × OL1 + OL0
-numbered : (ol0 ol1 : Bool) → 2 * cond ol1 1 0 + cond ol0 1 0 ≡ cond ol1 (cond ol0 3 2) (cond ol0 1 0)
-numbered true true = refl
-numbered false true = refl
-numbered true false = refl
-numbered false false = refl
+-- the last step is document 01's, whose k = 2 × OL1 + OL0 is the number that Table 5 gives
+last-step : (ram ol0 ol1 : Bool) (bits : ℕ) →
+    cond (ram && (not ol0 && not ol1)) bits (256 + cond ol1 (cond ol0 3 2) (cond ol0 1 0))
+    ≡ cond (eqb (2 * cond ol1 1 0 + cond ol0 1 0) 0 && ram) bits (256 + (2 * cond ol1 1 0 + cond ol0 1 0))
+last-step true true true bits = refl
+last-step true true false bits = refl
+last-step true false true bits = refl
+last-step true false false bits = refl
+last-step false true true bits = refl
+last-step false true false bits = refl
+last-step false false true bits = refl
+last-step false false false bits = refl
 
 pub in-order : InOrder
 unfolding selected entryOf maskedPixel overlayBit
 in-order r on pixel ol0 ol1 =
     let shown = afterOverlayBlink r on (afterOverlayEnables r (afterBlinkMask r on (afterReadMask r (record { bits = pixel; ol0 = ol0; ol1 = ol1 })))) in
-    sym (by-number r shown (2 * cond (shown .ol1) 1 0 + cond (shown .ol0) 1 0) (numbered (shown .ol0) (shown .ol1)))
+    last-step (bit 6 (r .command)) (shown .ol0) (shown .ol1) (shown .bits)
 
 -- ---- bit planes
 

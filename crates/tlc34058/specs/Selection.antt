@@ -34,9 +34,9 @@ afterOverlayBlink r on p = record { bits = p .bits; ol0 = p .ol0 && (on || not (
 abbrev pub overlayNumber : Pixel → ℕ
 overlayNumber p = cond (p .ol1) (cond (p .ol0) 3 2) (cond (p .ol0) 1 0)
 
--- 5. The RAM enable, CR6: with OL1 and OL0 both low and CR6 high the palette entry at P7–P0; with either of them high or CR6 low the overlay register, which stands behind the 256 palette entries.
+-- 5. The RAM enable, CR6: with it high and both OL0 and OL1 low the palette entry at P7–P0; with it low or either of them high the overlay register, which stands behind the 256 palette entries.
 abbrev pub entryByRamEnable : Registers → Pixel → ℕ
-entryByRamEnable r p = cond ((not (p .ol1) && not (p .ol0)) && bit 6 (r .command)) (p .bits) (256 + overlayNumber p)
+entryByRamEnable r p = cond (bit 6 (r .command) && (not (p .ol0) && not (p .ol1))) (p .bits) (256 + overlayNumber p)
 
 -- the five steps in order
 unfoldable pub selected : Registers → Bool → Pixel → ℕ

@@ -2,7 +2,7 @@
 ghost use mathlib.Core.Path.{_≡_};
 ghost use mathlib.Core.Bool.{not, _&&_, _||_};
 ghost use mathlib.Core.List.{_++_};
-ghost use Prim.Native.Nat.{_≤_, _<_};
+ghost use Prim.Native.Nat.{_+_, _≤_, _<_};
 ghost use lib.ListN.{length, take};
 ghost use Rattle.event.specs.Answer.{answerLong, bytesOf};
 ghost use Rattle.tlc34058.specs.Facts as facts;
@@ -35,11 +35,11 @@ fn blink_on(command: u8, n: u8) -> bool
     n % 64 < 16
 }
 
-// A pixel on its way through the selection: its bits and its two overlay bits. OL1 comes first, here and where one is made: docs/DECISIONS.md 88.
+// A pixel on its way through the selection: its bits and its two overlay bits.
 struct Pixel {
     bits: u8,
-    ol1: bool,
     ol0: bool,
+    ol1: bool,
 }
 
 // An overlay bit where its enable bit is 1, 0 where it isn't.
@@ -81,6 +81,13 @@ fn overlay_number(p: Pixel) -> u8
     0
 }
 
+// The entry of that overlay: the overlays stand behind the 256 palette entries.
+fn overlay_entry(p: Pixel) -> usize
+    ensures { λ r. ⌜ (r ≡ 256 + overlayNumber (pixelOf p)) × (r < 260) ⌝ }
+{
+    256 + bytes::wide(overlay_number(p))
+}
+
 // The steps of the selection, in the order of specs/Selection.antt. Each gives the pixel as it leaves it, the last one the entry.
 
 // The read mask: planes with a 0 in it become 0.
@@ -89,8 +96,8 @@ fn after_read_mask(c: Control, p: Pixel) -> Pixel
 {
     Pixel {
         bits: bytes::masked(p.bits, c.read_mask),
-        ol1: p.ol1,
         ol0: p.ol0,
+        ol1: p.ol1,
     }
 }
 
@@ -103,45 +110,47 @@ fn after_blink_mask(c: Control, on: bool, p: Pixel) -> Pixel
     }
     Pixel {
         bits: bytes::masked(p.bits, 255 - c.blink_mask),
-        ol1: p.ol1,
         ol0: p.ol0,
+        ol1: p.ol1,
     }
 }
 
-// The overlay enables: CR1 for OL1, CR0 for OL0.
+// The overlay enables: CR0 for OL0, CR1 for OL1.
 fn after_overlay_enables(c: Control, p: Pixel) -> Pixel
     ensures { λ r. ⌜ pixelOf r ≡ afterOverlayEnables (registersOf c) (pixelOf p) ⌝ }
 {
     Pixel {
         bits: p.bits,
-        ol1: if_enabled(p.ol1, c.command / 2 % 2 == 1),
         ol0: if_enabled(p.ol0, c.command % 2 == 1),
+        ol1: if_enabled(p.ol1, c.command / 2 % 2 == 1),
     }
 }
 
-// The overlay blink: CR3 for OL1, CR2 for OL0.
+// The overlay blink: CR2 for OL0, CR3 for OL1.
 fn after_overlay_blink(c: Control, on: bool, p: Pixel) -> Pixel
     ensures { λ r. ⌜ pixelOf r ≡ afterOverlayBlink (registersOf c) on (pixelOf p) ⌝ }
 {
     Pixel {
         bits: p.bits,
-        ol1: if_lit(p.ol1, c.command / 8 % 2 == 1, on),
         ol0: if_lit(p.ol0, c.command / 4 % 2 == 1, on),
+        ol1: if_lit(p.ol1, c.command / 8 % 2 == 1, on),
     }
 }
 
-// The RAM enable, CR6. The overlays stand behind the 256 palette entries.
+// The RAM enable, CR6: with it high and both overlay bits low the palette, otherwise the overlay. The order of the tests: docs/DECISIONS.md 88.
 fn entry_by_ram_enable(c: Control, p: Pixel) -> usize
     ensures { λ r. ⌜ (r ≡ entryByRamEnable (registersOf c) (pixelOf p)) × (r < 260) ⌝ }
 {
-    let k = overlay_number(p);
     if c.command / 64 % 2 == 1 {
-        if k == 0 {
-            return bytes::wide(p.bits);
+        if p.ol0 {
+            return overlay_entry(p);
         }
-        return 256 + bytes::wide(k);
+        if p.ol1 {
+            return overlay_entry(p);
+        }
+        return bytes::wide(p.bits);
     }
-    256 + bytes::wide(k)
+    overlay_entry(p)
 }
 
 // The entry that a pixel shows.
@@ -150,8 +159,8 @@ fn entry_of(c: Control, on: bool, pixel: u8, ol0: bool, ol1: bool) -> usize
 {
     let given = Pixel {
         bits: pixel,
-        ol1,
         ol0,
+        ol1,
     };
     let masked = after_read_mask(c, given);
     let lit = after_blink_mask(c, on, masked);

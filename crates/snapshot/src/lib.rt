@@ -75,15 +75,13 @@ fn put_pairs(places: &[u8], out: &mut [u8], n: usize)
     let mut v = HEADER_BYTES + 2 * n;
     while i < places.len() {
         let byte = places[i]; // read once: the compiler can't tell that out doesn't overlap
-        if byte == 0 {
-            i += 1;
-            continue;
+        if byte != 0 {
+            out[k] = (i % 256) as u8;
+            out[k + 1] = (i / 256 % 256) as u8;
+            out[v] = byte;
+            k += 2;
+            v += 1;
         }
-        out[k] = (i % 256) as u8;
-        out[k + 1] = (i / 256 % 256) as u8;
-        out[v] = byte;
-        k += 2;
-        v += 1;
         i += 1;
     }
 }

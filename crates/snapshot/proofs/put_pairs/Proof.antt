@@ -3,6 +3,7 @@ use Rattle.snapshot.proofs.Stores.{pairsLeft, pair-skipped, pair-put, p
 use Rattle.snapshot.specs.Snapshot.{valuesOf}
 use denote.Ref.{now}
 use lib.ListN.{length, drop, length-set}
+use mathlib.Core.Logic.{⊎-elim}
 use mathlib.Core.Path.{_≡_, refl, ap}
 use native.Mathlib.Omega.{arith}
 use Prim.Native.Nat.{_+_, _*_, _≤_, _-_}
@@ -36,29 +37,6 @@ loop-holds c =
 shared-slice-read-byte : tie.Need-shared-slice-read-byte Inv-loop μ-loop
 shared-slice-read-byte c = omega arith
 
-add-i : tie.Need-add-i Inv-loop μ-loop
-add-i c = omega arith
-
-loop-less : tie.Need-loop-less Inv-loop μ-loop
-loop-less c = omega arith
-
-loop-again : tie.Need-loop-again Inv-loop μ-loop
-loop-again c =
-    let loop = c .before .before .before .loop in
-    let args = c .before .before .before .before .args in
-    let if1 = c .if1 in
-    let loop-test = c .before .before .loop-test in
-    let l = now (args .places) in
-    let e = ap length (values-zero l (loop .i) (loop-test .taken) (if1 .taken)) in (
-      omega (arith, loop-test .taken),
-      omega (arith, loop .inv .1),
-      omega (arith, loop .inv .2),
-      omega (arith, loop .inv .3),
-      loop .inv .4,
-      pair-skipped l (loop .out) (loop .i) (loop .k) (loop .v) (loop-test .taken) (if1 .taken) (loop .inv .5),
-      loop .inv .6,
-    )
-
 cast-out : tie.Need-cast-out Inv-loop μ-loop
 cast-out c = omega arith
 
@@ -83,28 +61,42 @@ add-k c = omega arith
 add-v-2 : tie.Need-add-v-2 Inv-loop μ-loop
 add-v-2 c = omega arith
 
-add-i-2 : tie.Need-add-i-2 Inv-loop μ-loop
-add-i-2 c = omega arith
+add-i : tie.Need-add-i Inv-loop μ-loop
+add-i c = omega arith
 
-loop-less-2 : tie.Need-loop-less-2 Inv-loop μ-loop
-loop-less-2 c = omega arith
+loop-less : tie.Need-loop-less Inv-loop μ-loop
+loop-less c = omega arith
 
-loop-again-2 : tie.Need-loop-again-2 Inv-loop μ-loop
-loop-again-2 c =
+loop-again : tie.Need-loop-again Inv-loop μ-loop
+loop-again c =
     let loop = c .before .before .before .loop in
     let args = c .before .before .before .before .args in
-    let if1 = c .if1 in
     let loop-test = c .before .before .loop-test in
     let l = now (args .places) in
-    let e = ap length (values-more l (loop .i) (loop-test .taken) (if1 .left)) in (
+    ⊎-elim
+    (λ w.
+    let e = ap length (values-more l (loop .i) (loop-test .taken) (w .0 .taken)) in
+    rw (w .1, w .2, w .3) (
       omega (arith, loop-test .taken),
       omega (arith, loop .inv .1),
       omega (arith, loop .inv .2),
       omega (arith, loop .inv .3),
       simp length-set (loop .inv .4),
-      pair-put l (loop .out) (loop .i) (loop .k) (loop .v) (loop-test .taken) (if1 .left) (loop .inv .1) (loop .inv .5),
+      pair-put l (loop .out) (loop .i) (loop .k) (loop .v) (loop-test .taken) (w .0 .taken) (loop .inv .1) (loop .inv .5),
       loop .inv .6,
-    )
+    ))
+    (λ w.
+    let e = ap length (values-zero l (loop .i) (loop-test .taken) (w .0 .left)) in
+    rw (w .1, w .2, w .3) (
+      omega (arith, loop-test .taken),
+      omega (arith, loop .inv .1),
+      omega (arith, loop .inv .2),
+      omega (arith, loop .inv .3),
+      loop .inv .4,
+      pair-skipped l (loop .out) (loop .i) (loop .k) (loop .v) (loop-test .taken) (w .0 .left) (loop .inv .5),
+      loop .inv .6,
+    ))
+    (c .if1 .came)
 
 same-length : tie.Need-same-length Inv-loop μ-loop
 same-length c =
@@ -127,9 +119,6 @@ put-pairs-spec =
     add-v
     loop-holds
     shared-slice-read-byte
-    add-i
-    loop-less
-    loop-again
     cast-out
     slice-write-out
     cast-out-2
@@ -138,8 +127,8 @@ put-pairs-spec =
     slice-write-out-3
     add-k
     add-v-2
-    add-i-2
-    loop-less-2
-    loop-again-2
+    add-i
+    loop-less
+    loop-again
     same-length
     returns)

@@ -1,6 +1,7 @@
-// The places' largest values, and a save.
+// The places' largest values, what goes by them, and a save.
 ghost use mathlib.Core.Path.{_≡_};
-ghost use Rattle.snapshot.specs.Snapshot.{Valid};
+ghost use lib.ListN.{length};
+ghost use Rattle.snapshot.specs.Snapshot.{valueRefusal, Valid, Decoded};
 ghost use Rattle.tms34070.specs.Facts as facts;
 ghost use Rattle.tms34070.specs.Places.{stateFrom, saved, decodedOrFresh};
 use crate::LONGEST_SNAPSHOT;
@@ -97,10 +98,28 @@ const LARGEST: [u8; PLACES] = [
     15,
 ];
 
-pub fn largest() -> [u8; PLACES]
+// Each use of it has a function of its own: the compiler fills the table byte by byte, and beside it would move a state's places so, too (docs/DECISIONS.md 91).
+fn largest() -> [u8; PLACES]
     ensures { λ r. ⌜ r ≡ facts.largest ⌝ }
 {
     LARGEST
+}
+
+// 25 where a value is above its place's largest, or 0.
+pub fn value_refusal(places: &[u8]) -> u8
+    ensures { λ r. ⌜ r ≡ valueRefusal facts.largest (now (places .entry)) ⌝ }
+{
+    let t = largest();
+    snapshot::value_refusal(&t, places)
+}
+
+// The places that a snapshot gives, into places; or its refusal, with places unchanged.
+pub fn decode(s: &[u8], places: &mut [u8]) -> u8
+    requires { ⌜ length (now places) ≡ length facts.largest ⌝ }
+    ensures { λ r. ⌜ Decoded facts.number facts.largest (now (s .entry)) (now (places .entry)) r (now (places .exit)) ⌝ }
+{
+    let t = largest();
+    snapshot::decode(NUMBER, &t, s, places)
 }
 
 // A save event does both steps for real: the places become a snapshot, and are restored from its bytes.

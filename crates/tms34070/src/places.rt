@@ -98,7 +98,7 @@ const LARGEST: [u8; PLACES] = [
     15,
 ];
 
-// Each use of it has a function of its own: the compiler fills the table byte by byte, and beside it would move a state's places so, too (docs/DECISIONS.md 91).
+// Each use of it has a function of its own: the compiler fills the table byte by byte, and beside it would move a state's places so, too (docs/DECISIONS.md 90).
 fn largest() -> [u8; PLACES]
     ensures { λ r. ⌜ r ≡ facts.largest ⌝ }
 {

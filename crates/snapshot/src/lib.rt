@@ -75,6 +75,7 @@ fn put_pairs(places: &[u8], out: &mut [u8], n: usize)
     let mut v = HEADER_BYTES + 2 * n;
     while i < places.len() {
         let byte = places[i]; // read once: the compiler can't tell that out doesn't overlap
+        // no `continue`: with one way on from both, the compiler takes two places a turn (docs/DECISIONS.md 91)
         if byte != 0 {
             out[k] = (i % 256) as u8;
             out[k + 1] = (i / 256 % 256) as u8;

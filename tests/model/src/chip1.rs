@@ -2,6 +2,7 @@
 //! (Table 5) and command register (Table 7).
 
 use crate::event::{Answer, Operand, ANSWER_BYTES};
+use crate::painting::Painted;
 use crate::refusal::Refusal;
 
 /// Palette RAM words, 00 to FF.
@@ -65,6 +66,19 @@ enum ControlRegister {
     BlinkMask,
     Command,
     Test,
+}
+
+impl ControlRegister {
+    /// The display looks at every control register but the test register. Their
+    /// numbers follow the entries'.
+    fn painted(&self) -> Painted {
+        match self {
+            ControlRegister::ReadMask => Painted::Numbered(260),
+            ControlRegister::BlinkMask => Painted::Numbered(261),
+            ControlRegister::Command => Painted::Numbered(262),
+            ControlRegister::Test => Painted::Nothing,
+        }
+    }
 }
 
 /// One pixel's inputs: P0-P7, OL0 and OL1.
@@ -253,14 +267,13 @@ impl Chip1 {
         self.command >> n & 1 != 0
     }
 
-    /// Whether this write would paint if it weren't refused: a colour write in
-    /// the blue cycle, or a write of a register that the display looks at. The
-    /// test register isn't one.
-    pub(crate) fn write_paints(&self, selector: u8) -> bool {
-        match selector {
-            1 | 3 => self.addr_ab == BLUE,
-            2 => matches!(self.addr, 4..=6),
-            _ => false,
+    /// What a write paints: a colour write in the blue cycle its entry, a
+    /// control write its register. A refused one selects nothing.
+    pub(crate) fn painted_by_write(&self, selector: u8) -> Painted {
+        match self.select(selector) {
+            Ok(Selected::Colour(entry)) if self.addr_ab == BLUE => Painted::Numbered(entry as u16),
+            Ok(Selected::Control(register)) => register.painted(),
+            Ok(Selected::Colour(_) | Selected::Address) | Err(_) => Painted::Nothing,
         }
     }
 

@@ -2,6 +2,7 @@
 //! read modes, the pixel mask register (Table 3) and its one pixel.
 
 use crate::event::{Answer, Operand, ANSWER_BYTES};
+use crate::painting::Painted;
 use crate::refusal::Refusal;
 
 /// Entries of the CLT.
@@ -137,12 +138,14 @@ impl Chip2 {
         Ok(answer)
     }
 
-    /// Whether this write would paint if it weren't refused.
-    pub(crate) fn write_paints(&self, selector: u8) -> bool {
+    /// What a write paints if it isn't refused: the blue byte of a colour its
+    /// entry, a mask write the pixel mask register, which is numbered as chip 1's
+    /// read mask is.
+    pub(crate) fn painted_by_write(&self, selector: u8) -> Painted {
         match selector {
-            1 => self.position == BLUE,
-            2 => true,
-            _ => false,
+            1 if self.position == BLUE => Painted::Numbered(u16::from(self.address)),
+            2 => Painted::Numbered(260),
+            _ => Painted::Nothing,
         }
     }
 

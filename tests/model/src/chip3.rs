@@ -2,6 +2,7 @@
 //! loaded, and the attribute bits REP and EXT.
 
 use crate::event::{Answer, Operand, ANSWER_BYTES};
+use crate::painting::Painted;
 use crate::refusal::Refusal;
 
 /// Registers of the colour lookup table.
@@ -135,10 +136,14 @@ impl Chip3 {
         self.colour_before
     }
 
-    /// Whether a load would paint if it weren't refused: a register changes with
-    /// its second load.
-    pub(crate) fn load_paints(&self) -> bool {
-        self.at_second_load()
+    /// What a load paints if it isn't refused: a register changes with its second
+    /// load.
+    pub(crate) fn painted_by_load(&self) -> Painted {
+        if self.at_second_load() {
+            Painted::Unnumbered
+        } else {
+            Painted::Nothing
+        }
     }
 
     /// The list of places.

@@ -3,11 +3,11 @@
 //! logs, the run of a log, the output currents of a chip 1 tick, the painting
 //! accesses and the printing program's output.
 //!
-//! It rests on document 01 (the scope paper, `01-scope.md`), on Notes 1 to 3 of
-//! document 02 (`02-change-requests.md`) and on the data sheets of the TLC34058
-//! (source document 000), the HD153129 (source document 001) and the TMS34070
-//! (source document 003) alone, independently of the code that it is compared
-//! with. Where a paper leaves two readings, the one taken is listed in
+//! It rests on document 01 (the scope paper, `01-scope.md`), on Notes 1 to 3 and
+//! 5 of document 02 (`02-change-requests.md`) and on the data sheets of the
+//! TLC34058 (source document 000), the HD153129 (source document 001) and the
+//! TMS34070 (source document 003) alone, independently of the code that it is
+//! compared with. Where a paper leaves two readings, the one taken is listed in
 //! `docs/MODEL-READINGS.md`.
 //!
 //! The names are the data sheets': ADDR0-7 and ADDRa,b, RREG and GREG, read

@@ -1,10 +1,37 @@
-//! Which accesses of a log paint.
+//! What an access paints: the definition that the answers of writes and the
+//! list of a log's painting accesses rest on.
 
-use crate::event::{event, is_access, kind};
+use crate::event::{event, is_access, kind, Operand};
 use crate::log::Event;
 use crate::refusal::Refusal;
 use crate::run::accepted_pair;
 use crate::state::State;
+
+/// What an access paints.
+#[derive(Clone, Copy, Debug, PartialEq, Eq)]
+pub(crate) enum Painted {
+    /// Nothing that a tick looks at.
+    Nothing,
+    /// Chips 1 and 2: an entry, or a register that the display looks at, by the
+    /// number that the write answers with.
+    Numbered(u16),
+    /// Chip 3: a register of its table. Loads answer no number.
+    Unnumbered,
+}
+
+/// What an access paints if it isn't refused. The state is the one before the
+/// access, which may move the position and the address on.
+pub(crate) fn painted(state: &State, kind: u8, operand: &Operand) -> Painted {
+    let selector = operand[0];
+    match state {
+        State::Chip1(chip) if kind == kind::WRITE => chip.painted_by_write(selector),
+        State::Chip2(chip) if kind == kind::WRITE => chip.painted_by_write(selector),
+        State::Chip3(chip) if kind == kind::LOAD => chip.painted_by_load(),
+        State::Chip1(_) | State::Chip2(_) | State::Chip3(_) | State::NotBuilt(_) => {
+            Painted::Nothing
+        }
+    }
+}
 
 /// The indices of the painting accesses of a log started from a snapshot. The
 /// pair is refused as a run would refuse it (20 to 25, 10 to 15, 26).
@@ -28,14 +55,7 @@ pub fn painting_accesses(snapshot: &[u8], log: &[u8]) -> Result<Vec<usize>, Refu
     Ok(painting)
 }
 
-/// Whether an access paints if the chip doesn't refuse it.
+/// Whether an access paints if it isn't refused.
 fn would_paint(state: &State, access: &Event) -> bool {
-    let write = access.kind == kind::WRITE;
-    let selector = access.operand[0];
-    match state {
-        State::Chip1(chip) => write && chip.write_paints(selector),
-        State::Chip2(chip) => write && chip.write_paints(selector),
-        State::Chip3(chip) => access.kind == kind::LOAD && chip.load_paints(),
-        State::NotBuilt(_) => false,
-    }
+    painted(state, access.kind, &access.operand) != Painted::Nothing
 }

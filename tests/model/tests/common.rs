@@ -1,7 +1,8 @@
-//! What the test files share beside the kit: a bench around one state, runs with
-//! buffers that fit or of any size, and a header and snapshots that are refused.
+//! What the test files share beside the kit: a bench around one state, the
+//! answers of writes, runs with buffers that fit or of any size, and a header and
+//! snapshots that are refused.
 
-use kit::{log_bytes, p3, place_count, snapshot_bytes};
+use kit::{c, log_bytes, p1, p2, p3, place_count, rs, snapshot_bytes};
 use kit::{ANSWER_BYTES, END_BYTES, MOST_EVENTS, NOT_BUILT};
 use model::{event, kind, run, Answer, Event, Operand, State};
 
@@ -38,10 +39,20 @@ impl Bench {
         answer
     }
 
-    /// A write's refusal or 0. A write answers nothing else.
+    /// All bytes of a write's answer.
+    pub fn write_answer(&mut self, selector: u8, byte: u8) -> Answer {
+        self.event(kind::WRITE, [selector, byte, 0, 0, 0, 0, 0, 0])
+    }
+
+    /// A write's refusal or 0. A write answers nothing else but what it painted,
+    /// which must be what [`number_painted`] says.
     pub fn write(&mut self, selector: u8, byte: u8) -> u8 {
-        let answer = self.event(kind::WRITE, [selector, byte, 0, 0, 0, 0, 0, 0]);
-        assert_eq!(answer[1..], [0; ANSWER_BYTES - 1]);
+        let number = number_painted(&self.state, selector);
+        let answer = self.write_answer(selector, byte);
+        match number {
+            Some(number) => assert_eq!(answer, painted_answer(number)),
+            None => assert_eq!(answer[1..], [0; ANSWER_BYTES - 1]),
+        }
         answer[0]
     }
 
@@ -162,6 +173,40 @@ impl Bench {
 
     pub fn colour_before(&self) -> [u8; 3] {
         self.state.places()[p3::COLOUR_BEFORE..].try_into().unwrap()
+    }
+}
+
+/// The answer of a write that painted the entry or register of this number.
+pub fn painted_answer(number: u16) -> Answer {
+    let mut answer = [0; ANSWER_BYTES];
+    answer[1] = 1;
+    answer[2] = (number % 256) as u8;
+    answer[3] = (number / 256) as u8;
+    answer
+}
+
+/// The number that a write on this state answers, or nothing if it doesn't paint
+/// or is refused. From the places and the papers, and not by the model.
+pub fn number_painted(state: &State, selector: u8) -> Option<u16> {
+    let places = state.places();
+    match (state.chip(), selector) {
+        (1, _) => {
+            let address = u16::from(places[p1::ADDRESS]);
+            let blue = places[p1::POSITION] == 2;
+            match (selector, address) {
+                (c::PALETTE, _) if blue => Some(address),
+                (c::OVERLAY, 0..=3) if blue => Some(256 + address),
+                // Registers 04h to 06h follow overlays 0 to 3.
+                (c::CONTROL, 4..=6) => Some(256 + address),
+                _ => None,
+            }
+        }
+        (2, rs::CLT) => {
+            let blue_written = places[p2::POSITION] == 2 && places[p2::DIRECTION] == 0;
+            blue_written.then_some(u16::from(places[p2::ADDRESS]))
+        }
+        (2, rs::PIXEL_MASK) => Some(260),
+        _ => None,
     }
 }
 

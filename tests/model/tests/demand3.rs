@@ -6,7 +6,7 @@
 //! of chip 3 end with the same snapshot. Without that, their ends may differ at
 //! places 83 to 85, the colour before, and nowhere else.
 
-use crate::common::{play, Played};
+use crate::common::{painted_answer, play, Played};
 use kit::{before_painting, free_shuffle, painting_shuffle, with_saves, Random, Sort};
 use kit::{is_access, is_display, is_save, is_tick, log_bytes, only, p2, p3, snapshot_bytes};
 use kit::{
@@ -26,6 +26,10 @@ struct Census {
     /// Answers with each refusal.
     refused: BTreeMap<u8, usize>,
     painting: usize,
+    /// Painting writes, by the number in their answers.
+    painted: BTreeMap<u16, usize>,
+    /// Painting accesses at another index in the other log.
+    painting_moved: usize,
     ticks_with_colour: usize,
     vertical_periods: usize,
     pairs_with_other_ticks: usize,
@@ -50,6 +54,21 @@ impl Census {
         }
         let coloured = |answer: &&Answer| answer[0] == 0 && answer[3..] != [0; ANSWER_BYTES - 3];
         self.ticks_with_colour += ticks.iter().filter(coloured).count();
+    }
+
+    /// Counts the numbers that painting accesses answer. Every painting write must
+    /// have one; chip 3's loads have none.
+    fn count_painted(&mut self, events: &[Event], answers: &[Answer], painting: &[usize]) {
+        for &index in painting {
+            let answer = answers[index];
+            if events[index].kind == kind::LOAD {
+                assert_eq!(answer, [0; ANSWER_BYTES]);
+                continue;
+            }
+            let number = u16::from_le_bytes([answer[2], answer[3]]);
+            assert_eq!(answer, painted_answer(number));
+            *self.painted.entry(number).or_insert(0) += 1;
+        }
     }
 
     /// Counts the pixels of chip 3 that repeat, event by event.
@@ -146,6 +165,12 @@ fn check_pair(census: &mut Census, chip: u8, snapshot: &[u8], one: &[Event], two
     census.moved += usize::from(plain(one) != plain(two));
     census.saves_differ += usize::from(one.len() != two.len());
     census.painting += painting_one.len();
+    census.count_painted(one, &played_one.answers, &painting_one);
+    let moved = painting_one
+        .iter()
+        .zip(&painting_two)
+        .filter(|(a, b)| a != b);
+    census.painting_moved += moved.count();
     census.pairs_with_other_ticks += usize::from(ticks_one != ticks_two);
     census.vertical_periods += one.iter().filter(|e| e.kind == kind::VERTICAL).count();
     census.pairs_with_other_ends += usize::from(played_one.end != played_two.end);
@@ -180,11 +205,32 @@ fn census_of(seed: u64, chip: u8, pairs: usize, count: usize, condition: bool) -
     census
 }
 
+/// Enough answers of painting writes, of every sort that the chip has, and enough
+/// painting accesses that stand at two indices.
+fn assert_well_painted(census: &Census, chip: u8) {
+    let sorts: &[_] = match chip {
+        1 => &[0..=255, 256..=259, 260..=260, 261..=261, 262..=262],
+        2 => &[0..=255, 260..=260],
+        3 => &[],
+        _ => panic!("what chip {chip} paints isn't listed"),
+    };
+    let mut listed = 0;
+    for numbers in sorts {
+        let times: usize = census.painted.range(numbers.clone()).map(|(_, n)| n).sum();
+        assert!(times > census.pairs / 2, "{numbers:?}: {times}");
+        listed += times;
+    }
+    assert_eq!(listed, census.painted.values().sum());
+    assert_eq!(listed, if chip == 3 { 0 } else { census.painting });
+    assert!(census.painting_moved > census.painting / 2);
+}
+
 /// Enough of everything that a chip's logs can hold.
 fn assert_well_mixed(census: &Census, chip: u8) {
     assert!(census.moved > census.pairs / 2);
     assert!(census.saves_differ > census.pairs / 2);
     assert!(census.painting > 2 * census.pairs);
+    assert_well_painted(census, chip);
     assert!(census.ticks_with_colour > 2 * census.pairs);
     assert!(census.vertical_periods > census.pairs);
     let possible: &[u8] = match chip {
@@ -303,7 +349,40 @@ fn a_tick_before_or_after_a_blue_write_on_chip_1() {
     assert_eq!(before.answers[0][3..6], [0, 0, 0]);
     assert_eq!(after.answers[1][3..6], [1, 2, 3]);
     assert_eq!(before.answers[1], after.answers[0]);
+    assert_eq!(before.answers[1], painted_answer(0));
     assert_eq!(before.end, after.end);
+}
+
+/// By hand: whatever stands before them, painting writes answer the same number.
+#[test]
+fn painting_writes_answer_alike_wherever_they_stand() {
+    // Address FEh and position 2 on chip 1: entry 254, then the registers.
+    let snapshot = snapshot_bytes(1, &[(780, 0xFE), (781, 2)]);
+    let accesses = [
+        write(1, 9),
+        write(0, 4),
+        write(2, 0xFF),
+        write(0, 6),
+        write(2, 0x40),
+    ];
+    let quiet = [0; ANSWER_BYTES];
+    let (entry, mask, command) = (254, 260, 262);
+    let expected = [
+        painted_answer(entry),
+        quiet,
+        painted_answer(mask),
+        quiet,
+        painted_answer(command),
+    ];
+    let displays = [tick([254, 0, 0, 0, 0, 0, 0, 1]), vertical()];
+    let last = play(1, &snapshot, &[&displays[..], &accesses].concat());
+    assert_eq!(last.answers[2..], expected);
+    let first = play(1, &snapshot, &[&accesses[..], &displays].concat());
+    assert_eq!(first.answers[..5], expected);
+    let between = accesses.map(|access| [displays[0], access, displays[1], save_event()]);
+    let between = play(1, &snapshot, &between.concat());
+    let answers = between.answers.iter().skip(1).step_by(4).copied();
+    assert!(answers.eq(expected));
 }
 
 /// One swap by hand: a red write doesn't paint, so the tick stays as it is.

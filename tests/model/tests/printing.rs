@@ -51,7 +51,14 @@ fn digits_are_lowercase_and_every_line_ends_with_a_line_feed() {
         write(2, 0xC0),
         tick([0xFF, 0xFF, 0xFF, 0xFF, 0xFF, 0, 0, 3]),
     ];
-    let mut expected = "000000000000000000000000000000000000\n".repeat(8);
+    // The triple's last write paints entry 255, the control writes 260 and 262.
+    let quiet = "000000000000000000000000000000000000\n";
+    let mut expected = quiet.repeat(3);
+    expected += "0001ff000000000000000000000000000000\n";
+    expected += quiet;
+    expected += "000104010000000000000000000000000000\n";
+    expected += quiet;
+    expected += "000106010000000000000000000000000000\n";
     expected += "000503abcdefabcdefabcdefabcdefabcdef\n";
     // Places 765 to 767, 780 (06h), 782, 783, 784, 786 and their values.
     expected += "010800";
@@ -99,6 +106,67 @@ fn a_log_of_a_chip_that_is_not_built_prints_11() {
         assert_eq!(printed(&[chip, 0, 0, 0, 0]), "refused 11\n");
         assert_eq!(printed(&log_bytes(chip, &[read(0)])), "refused 11\n");
     }
+}
+
+#[test]
+fn painting_writes_print_what_they_painted() {
+    // Address 2, overlay 2's triple, then the blink mask at 05h, then the test
+    // register at 07h, which isn't painting.
+    let chip_1 = [
+        write(0, 2),
+        write(3, 1),
+        write(3, 2),
+        write(3, 3),
+        write(0, 5),
+        write(2, 0xFF),
+        write(0, 7),
+        write(2, 0xFF),
+    ];
+    let expected = concat!(
+        "000000000000000000000000000000000000\n",
+        "000000000000000000000000000000000000\n",
+        "000000000000000000000000000000000000\n",
+        "000102010000000000000000000000000000\n",
+        "000000000000000000000000000000000000\n",
+        "000105010000000000000000000000000000\n",
+        "000000000000000000000000000000000000\n",
+        "000000000000000000000000000000000000\n",
+        // Places 774 to 776, 780, 782, 783, 785 and 787.
+        "010800",
+        "060307030803",
+        "0c03",
+        "0e030f03",
+        "11031303",
+        "010203070102ffff\n"
+    );
+    assert_eq!(printed(&log_bytes(1, &chip_1)), expected);
+    assert_eq!(printed_by_program(&log_bytes(1, &chip_1)), expected);
+
+    // Entry FEh's triple, then the mask, then the mask again.
+    let chip_2 = [
+        write(0, 0xFE),
+        write(1, 1),
+        write(1, 2),
+        write(1, 3),
+        write(2, 0x0F),
+        write(2, 0x0F),
+    ];
+    let expected = concat!(
+        "000000000000000000000000000000000000\n",
+        "000000000000000000000000000000000000\n",
+        "000000000000000000000000000000000000\n",
+        "0001fe000000000000000000000000000000\n",
+        "000104010000000000000000000000000000\n",
+        "000104010000000000000000000000000000\n",
+        // Places 762 to 764, 768, 771, 772 and 773.
+        "020700",
+        "fa02fb02fc02",
+        "0003",
+        "030304030503",
+        "010203ff01020f\n"
+    );
+    assert_eq!(printed(&log_bytes(2, &chip_2)), expected);
+    assert_eq!(printed_by_program(&log_bytes(2, &chip_2)), expected);
 }
 
 #[test]
@@ -220,6 +288,22 @@ fn grey_end() -> String {
     line + "ffffff40"
 }
 
+/// The answer's line of write `index` of [`grey_log`]: the read mask is painted by
+/// write 1 and the command by write 3; from write 5 on, every third write paints
+/// the next entry.
+fn grey_write_line(index: usize) -> String {
+    let (entry, position) = match index.checked_sub(5) {
+        Some(colour) => (colour / 3, colour % 3),
+        None => (0, 0),
+    };
+    match (index, position) {
+        (1, _) => format!("00010401{}", "0".repeat(28)),
+        (3, _) => format!("00010601{}", "0".repeat(28)),
+        (_, 2) => format!("0001{entry:02x}00{}", "0".repeat(28)),
+        _ => "0".repeat(36),
+    }
+}
+
 #[test]
 fn the_longest_log_prints_7001_lines() {
     let log = grey_log();
@@ -230,7 +314,7 @@ fn the_longest_log_prints_7001_lines() {
     assert_eq!(lines.len(), 7001);
     for (index, line) in lines[..MOST_EVENTS].iter().enumerate() {
         let expected = match index.checked_sub(GREY_WRITES) {
-            None => "0".repeat(36),
+            None => grey_write_line(index),
             Some(k) => {
                 let greys = [k % 256, k / 256].map(|grey| format!("{grey:02x}").repeat(3));
                 format!("000401{}{}{}", greys[0], greys[1], "0".repeat(18))
@@ -239,6 +323,12 @@ fn the_longest_log_prints_7001_lines() {
         assert_eq!(*line, expected, "line {index}");
     }
     assert_eq!(lines[MOST_EVENTS], grey_end());
+    // Four writes by hand: the blue bytes of entries 0, 1 and 255, and the green
+    // byte before the last.
+    assert_eq!(lines[7], "000100000000000000000000000000000000");
+    assert_eq!(lines[10], "000101000000000000000000000000000000");
+    assert_eq!(lines[772], "0001ff000000000000000000000000000000");
+    assert_eq!(lines[771], "000000000000000000000000000000000000");
     // Four ticks by hand: 0, 1, 256 and the last, 6,226 (24 x 256 + 82).
     assert_eq!(lines[773], "000401000000000000000000000000000000");
     assert_eq!(lines[774], "000401010101000000000000000000000000");

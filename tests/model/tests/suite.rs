@@ -9,12 +9,14 @@ mod event_refusals;
 mod hd153129_tables;
 mod marked_lines;
 mod painting;
+mod painting_laws;
 mod printing;
 mod round_trips;
 mod run_refusals;
 mod snapshot_refusals;
 mod tlc34058_tables;
 mod tms34070_registers;
+mod write_answers;
 
 use std::collections::BTreeSet;
 use std::fs;

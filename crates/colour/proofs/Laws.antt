@@ -1,11 +1,12 @@
--- Colour accesses keep values within bounds, and only a byte written at position 2 changes a colour.
-use Prim.Native.Nat.{ℕ, _+_, _*_, _≤_}
-use mathlib.Core.Path.{_≡_, refl}
+-- Colour accesses keep values within bounds, only a byte written at position 2 changes a colour, and it changes one entry's.
+use Prim.Native.Nat.{ℕ, _+_, _*_, _≤_, _<_}
+use mathlib.Core.Path.{_≡_, refl, _∙_}
 use mathlib.Core.Bool.{false}
 use mathlib.Core.List.{List}
 use native.Mathlib.Omega.{arith}
 use lib.Dec.{eqb}
 use lib.ListN.{length, getD, set, length-set}
+use lib.Seq.{getD-set-other}
 use Rattle.laws.proofs.Tests.{cond-all}
 use Rattle.laws.proofs.Lists.{set-all}
 use Rattle.counters.specs.Counters.{nextAddress}
@@ -58,3 +59,15 @@ module _ (l : List ℕ) (c : Cursor) (e b : ℕ) where
   pub stored-none : eqb (c .position) 2 ≡ false → stored l c e b ≡ l
   unfolding stored
   stored-none h = simp h
+
+  -- and every other entry stays
+  pub stored-other : (f k : ℕ) → k < 3 → (f ≡ e → ⊥) → getD (stored l c e b) (3 * f + k) 0 ≡ getD l (3 * f + k) 0
+  unfolding stored
+  stored-other f k h other =
+      let red : List ℕ = set l (3 * e) (c .heldRed) in
+      let green : List ℕ = set red (3 * e + 1) (c .heldGreen) in
+      cond-all (λ x. getD x (3 * f + k) 0 ≡ getD l (3 * f + k) 0) (eqb (c .position) 2) (triple l e (c .heldRed) (c .heldGreen) b) l
+      (getD-set-other green (3 * e + 2) (3 * f + k) b 0 (λ q. other (omega arith))
+      ∙ getD-set-other red (3 * e + 1) (3 * f + k) (c .heldGreen) 0 (λ q. other (omega arith))
+      ∙ getD-set-other l (3 * e) (3 * f + k) (c .heldRed) 0 (λ q. other (omega arith)))
+      refl

@@ -4,6 +4,7 @@ use mathlib.Core.Bool.{cond}
 use mathlib.Core.List.{List}
 use lib.Dec.{eqb}
 use lib.ListN.{getD, set}
+use Rattle.event.specs.Answer.{Answer, written}
 use Rattle.counters.specs.Counters.{nextAddress, nextPosition}
 
 -- what colour accesses move beside the colours: the address, the position, the held red and green
@@ -42,6 +43,10 @@ triple l e r g b = set (set (set l (3 * e) r) (3 * e + 1) g) (3 * e + 2) b
 -- a byte written at 2 stores held red, held green and itself into the entry
 unfoldable pub stored : List ℕ → Cursor → ℕ → ℕ → List ℕ
 stored colours c e b = cond (eqb (c .position) 2) (triple colours e (c .heldRed) (c .heldGreen) b) colours
+
+-- and so paints it, as the write's answer says
+abbrev pub wrote : Cursor → ℕ → Answer
+wrote c e = written (eqb (c .position) 2) e
 
 -- a read gives the entry's component at the position
 abbrev pub component : List ℕ → Cursor → ℕ → ℕ

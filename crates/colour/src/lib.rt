@@ -2,7 +2,8 @@
 ghost use mathlib.Core.Path.{_≡_};
 ghost use Prim.Native.Nat.{_+_, _*_, _<_, _≤_};
 ghost use lib.ListN.{length};
-ghost use Rattle.colour.specs.Colour.{pointed, onward, held, stored, component};
+ghost use Rattle.event.specs.Answer.{done, bytesOf};
+ghost use Rattle.colour.specs.Colour.{pointed, onward, held, stored, wrote, component};
 ghost use Rattle.colour.specs.Struct.{cursorOf};
 use counters::Address;
 use counters::Position;
@@ -51,10 +52,10 @@ impl Cursor {
         }
     }
 
-    // A colour byte is held at positions 0 and 1; at 2 the triple goes into the entry. Then the counters move on.
-    pub fn write(self, colours: &mut [u8], entry: usize, byte: u8) -> Cursor
-        requires { ⌜ (self .position .0 ≤ 2) × (3 * entry + 2 < length (now colours)) ⌝ }
-        ensures { λ r. ⌜ (cursorOf r ≡ onward (held (cursorOf self) byte)) × (now (colours .exit) ≡ stored (now (colours .entry)) (cursorOf self) entry byte) ⌝ }
+    // A colour byte is held at positions 0 and 1; at 2 the triple goes into the entry, and the answer, all zeros before, says so. Then the counters move on.
+    pub fn write(self, colours: &mut [u8], entry: usize, byte: u8, part: &mut [u8]) -> Cursor
+        requires { ⌜ (self .position .0 ≤ 2) × (3 * entry + 2 < length (now colours)) × (entry < 65536) × (now part ≡ bytesOf done) ⌝ }
+        ensures { λ r. ⌜ (cursorOf r ≡ onward (held (cursorOf self) byte)) × (now (colours .exit) ≡ stored (now (colours .entry)) (cursorOf self) entry byte) × (now (part .exit) ≡ bytesOf (wrote (cursorOf self) entry)) ⌝ }
     {
         let mut cursor = self;
         let at = self.position.0;
@@ -70,6 +71,7 @@ impl Cursor {
         colours[first] = self.held_red;
         colours[first + 1] = self.held_green;
         colours[first + 2] = byte;
+        event::put_painted(part, entry);
         cursor.next()
     }
 

@@ -9,7 +9,7 @@ use lib.ListN.{take, drop, replicate, length-take, drop-of-length-le}
 use native.Mathlib.Omega.{arith}
 use Rattle.laws.specs.Refusals.{orElse}
 use Rattle.laws.proofs.Tests.{cond-all, decide}
-use Rattle.event.specs.Answer.{Answer, refused, gave, done, showed, refusalIn}
+use Rattle.event.specs.Answer.{Answer, refused, gave, done, painted, showed, refusalIn}
 use Rattle.event.specs.Event.{Outcome, formRefusal, playedUnless}
 use Rattle.event.proofs.Laws.{played-stays}
 use Rattle.tlc34058.specs.Facts as facts
@@ -73,6 +73,7 @@ no-current : (a : Answer) → (refusalIn a ≡ 0 → ⊥) → currentsOf a ≡ r
 no-current (refused n) h = refl
 no-current (gave b) h = absurd (h refl)
 no-current done h = absurd (h refl)
+no-current (painted n) h = absurd (h refl)
 no-current (showed count levels codes) h = absurd (h refl)
 
 ticked-stays : (s : State) (o : List ℕ) → (refusalIn (ticked s o .answer) ≡ 0 → ⊥) → ticked s o .state ≡ s

@@ -6,7 +6,7 @@ use mathlib.Core.List.{List, [], _∷_, _++_}
 use lib.Dec.{eqb, ltb}
 use lib.ListN.{getD, replicate}
 use Rattle.event.specs.Kinds as kinds
-use Rattle.event.specs.Answer.{Answer, refused, gave, done, showed}
+use Rattle.event.specs.Answer.{Answer, refused, gave, done, painted, showed}
 use Rattle.event.specs.Event.{Raw, Outcome}
 use Rattle.tlc34058.specs.Facts as facts
 use Rattle.chip.specs.Chip.{State, numberOf, played}
@@ -35,6 +35,7 @@ currentsOf (showed count levels codes) = pixels count levels codes
 currentsOf (refused n) = replicate currentCount 0
 currentsOf (gave b) = replicate currentCount 0
 currentsOf done = replicate currentCount 0
+currentsOf (painted n) = replicate currentCount 0
 
 -- ---- the call
 

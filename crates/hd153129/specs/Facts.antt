@@ -1,5 +1,5 @@
 -- The numbers of an HD153129: document 01's chip byte, places and largest values, and the form of its events.
-use Prim.Native.Nat.{ℕ, _+_}
+use Prim.Native.Nat.{ℕ, _+_, _*_}
 use mathlib.Core.List.{List, [], _∷_, _++_}
 use lib.ListN.{length, replicate}
 
@@ -7,9 +7,12 @@ use lib.ListN.{length, replicate}
 abbrev pub number : ℕ
 number = 2
 
--- places 0 to 767 are colours, three components of each of 256 entries
+abbrev pub entries : ℕ
+entries = 256
+
+-- places 0 to 767 are colours, three components of each entry
 abbrev pub colours : ℕ
-colours = 768
+colours = 3 * entries
 
 -- colours have 6 bits
 abbrev pub largestColour : ℕ

@@ -4,7 +4,7 @@ use mathlib.Core.Bool.{Bool, true, false, cond}
 use lib.Dec.{ltb, eqb}
 use Rattle.counters.specs.Counters.{nextAddress, previousAddress}
 use Rattle.event.specs.Kinds as kinds
-use Rattle.event.specs.Answer.{Answer, refused, gave, done}
+use Rattle.event.specs.Answer.{Answer, refused, gave, done, written}
 use Rattle.event.specs.Event.{Raw, operandAt}
 use Rattle.colour.specs.Colour.{pointed, onward, held, stored, component}
 use Rattle.hd153129.specs.State.{State}
@@ -66,17 +66,6 @@ next s getColour = record { colours = s .colours; cursor = onward (s .cursor); d
 next s getMask = s
 next s nothing = s
 
--- what an access answers: a colour read the component of the entry before the address
-abbrev pub reply : State → Access → Answer
-reply s (refuse n) = refused n
-reply s (setAddress a d) = done
-reply s (setColour b) = done
-reply s (setMask b) = done
-reply s getAddress = gave (s .cursor .address)
-reply s getColour = gave (component (s .colours) (s .cursor) (previousAddress (s .cursor .address)))
-reply s getMask = gave (s .mask)
-reply s nothing = done
-
 -- document 01's painting access: an unrefused colour write made at position 2, or a mask write
 abbrev pub altersDisplay : State → Access → Bool
 altersDisplay s (refuse n) = false
@@ -87,3 +76,28 @@ altersDisplay s getAddress = false
 altersDisplay s getColour = false
 altersDisplay s getMask = false
 altersDisplay s nothing = false
+
+-- what it paints, as document 02's Note 5 numbers it: the entry, or 260 for the mask
+abbrev pub paintedNumber : State → Access → ℕ
+paintedNumber s (refuse n) = 0
+paintedNumber s (setAddress a d) = 0
+paintedNumber s (setColour b) = s .cursor .address
+paintedNumber s (setMask b) = 260
+paintedNumber s getAddress = 0
+paintedNumber s getColour = 0
+paintedNumber s getMask = 0
+paintedNumber s nothing = 0
+
+-- what an access answers: a write whether it paints, and what; a colour read the component of the entry before the address
+abbrev pub writeReply : State → Access → Answer
+writeReply s x = written (altersDisplay s x) (paintedNumber s x)
+
+abbrev pub reply : State → Access → Answer
+reply s (refuse n) = refused n
+reply s (setAddress a d) = writeReply s (setAddress a d)
+reply s (setColour b) = writeReply s (setColour b)
+reply s (setMask b) = writeReply s (setMask b)
+reply s getAddress = gave (s .cursor .address)
+reply s getColour = gave (component (s .colours) (s .cursor) (previousAddress (s .cursor .address)))
+reply s getMask = gave (s .mask)
+reply s nothing = done

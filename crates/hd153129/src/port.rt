@@ -13,6 +13,9 @@ use crate::Control;
 use colour::Cursor;
 use counters::Address;
 
+// What a write of the mask paints, past the entries' numbers.
+const MASK_NUMBER: usize = 260;
+
 // 1 for a selector over 3; 3 for a colour access in the other direction; or 0.
 fn access_refusal(selector: u8, direction: u8, other: u8) -> u8
     ensures { λ r. ⌜ r ≡ accessRefusal selector direction other ⌝ }
@@ -51,7 +54,7 @@ fn point(c: Control, address: Address, direction: u8) -> Control
     }
 }
 
-// A write's answer has its refusal and nothing else.
+// A write's answer has its refusal, or what it painted.
 pub fn write(colours: &mut [u8], c: Control, selector: u8, byte: u8, part: &mut [u8]) -> Control
     requires { ⌜ (length (now colours) ≡ facts.colours) × (c .cursor .position .0 ≤ 2) × (length (now part) ≡ answerLong) ⌝ }
     ensures { λ r. ⌜ Accessed (joined (now (colours .entry)) c) (joined (now (colours .exit)) r) (requestWrite (c .direction) selector byte) (now (part .exit)) ⌝ }
@@ -70,8 +73,12 @@ pub fn write(colours: &mut [u8], c: Control, selector: u8, byte: u8, part: &mut 
         return point(c, Address(byte).next(), 1);
     }
     if selector == 1 {
-        return with_cursor(c, cursor.write(colours, bytes::wide(address.0), byte % 64));
+        return with_cursor(
+            c,
+            cursor.write(colours, bytes::wide(address.0), byte % 64, part),
+        );
     }
+    event::put_painted(part, MASK_NUMBER);
     let mut next = c;
     next.mask = byte;
     next

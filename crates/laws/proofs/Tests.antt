@@ -15,6 +15,11 @@ pub cond-all {ℓ} : {A : Type ℓ} (P : A → Type 0) (b : Bool) (x y : A) → 
 cond-all P true x y f g = f
 cond-all P false x y f g = g
 
+-- two choices by one test
+pub choice {ℓ} : {A : Type ℓ} (R : A → A → Type 0) (b : Bool) (x x′ y y′ : A) → R x x′ → R y y′ → R (cond b x y) (cond b x′ y′)
+choice R true x x′ y y′ f g = f
+choice R false x x′ y y′ f g = g
+
 -- a test that is or isn't so
 pub decide : (P : Type 0) (b : Bool) → (b ≡ true → P) → (b ≡ false → P) → P
 decide P true f g = f refl

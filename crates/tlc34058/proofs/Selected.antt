@@ -2,6 +2,7 @@
 use Prim.Native.Nat.{ℕ, _+_, _≤_}
 use mathlib.Core.Path.{_≡_, refl, sym, _∙_, ap}
 use mathlib.Core.List.{List}
+use native.Mathlib.Omega.{arith}
 use borrow.Author.Tests.{eq-eqb, ne-eqb, eqb-false, ltb-false}
 use lib.Dec.{ltb}
 use Rattle.laws.proofs.Tests.{passed}
@@ -72,6 +73,14 @@ module _ (a n : ℕ) where
   overlay-low r e =
       let selected = passed (ltb 3 n) 1 _ (eqb-false 1 0 refl) r .1 in
       ltb-false 3 a (passed (ltb 3 a) 2 0 (eqb-false 2 0 refl) (simp (eq-eqb n 3 e) at selected) .0)
+
+  -- an accepted control access has one of four
+  pub control-high : accessRefusal n a ≡ 0 → (n ≡ 0 → ⊥) → (n ≡ 1 → ⊥) → (n ≡ 3 → ⊥) → 4 ≤ a
+  unfolding accessRefusal
+  control-high r z o t =
+      let low = passed (ltb 3 n) 1 _ (eqb-false 1 0 refl) r in
+      let is : n ≡ 2 = omega (arith, ltb-false 3 n (low .0), z, o, t) in
+      ltb-false a 4 (passed (ltb a 4) 2 _ (eqb-false 2 0 refl) (simp (ne-eqb n 3 t, eq-eqb n 2 is) at (low .1)) .0)
 
 -- a struct's state, part by part
 pub joined-by : (l l′ : List ℕ) (r c : Control) (k : Cursor) (g : Registers) → l ≡ l′ → cursorOf (r .cursor) ≡ k → registersOf r ≡ g → r .blink ≡ c .blink

@@ -1,5 +1,5 @@
 -- The numbers of a TLC34058: document 01's chip byte, places and largest values, and the form of its events.
-use Prim.Native.Nat.{ℕ, _+_}
+use Prim.Native.Nat.{ℕ, _+_, _*_}
 use mathlib.Core.List.{List, [], _∷_, _++_}
 use lib.ListN.{length, replicate}
 
@@ -7,9 +7,13 @@ use lib.ListN.{length, replicate}
 abbrev pub number : ℕ
 number = 1
 
--- places 0 to 779 are colours, three components of each of 256 palette entries and 4 overlays
+-- 256 palette entries and 4 overlays
+abbrev pub entries : ℕ
+entries = 260
+
+-- places 0 to 779 are colours, three components of each entry
 abbrev pub colours : ℕ
-colours = 780
+colours = 3 * entries
 
 abbrev pub largestColour : ℕ
 largestColour = 255

@@ -1,14 +1,19 @@
--- Document 01's "Painting" of chip 1, said by itself: which accesses alter the display, and a table of accesses that do and that don't.
+-- Document 01's "Painting" of chip 1, said by itself: which accesses alter the display, and a table of accesses that do and that don't. Then document 02's Note 5.
 use Prim.Native.Nat.{ℕ}
 use mathlib.Core.Bool.{Bool, true, false, not, _&&_, _||_}
 use mathlib.Core.List.{List, [], _∷_}
 use lib.Dec.{T, eqb, ltb}
 use lib.ListN.{replicate}
 use Rattle.event.specs.Kinds.{write, read, load}
-use Rattle.event.specs.Table.{all, AccessRow, accessBy, agrees}
+use Rattle.event.specs.Answer.{bytesOf}
+use Rattle.event.specs.Event.{Raw}
+use Rattle.event.specs.Painted.{SaysWhatItPaints}
+use Rattle.event.specs.Table.{all, AccessRow, accessBy, agrees, NumberRow, numbers}
 use Rattle.tlc34058.specs.Facts as facts
-use Rattle.tlc34058.specs.State.{Port}
-use Rattle.tlc34058.specs.Port.{accessRefusal, select, request, altersDisplay}
+use Rattle.tlc34058.specs.State.{Port, State}
+use Rattle.tlc34058.specs.Port.{accessRefusal, select, request, reply, altersDisplay}
+use Rattle.tlc34058.specs.Tick.{blinkOn, entryAt}
+use Rattle.tlc34058.specs.Machine.{chip, alters}
 
 -- an unrefused colour write made at position 2 (an overlay write is refused with the address over 3), or an unrefused control write at 04h, 05h or 06h
 abbrev pub paints : ℕ → ℕ → ℕ → ℕ → Bool
@@ -19,16 +24,15 @@ paints kind selector address position =
     || (eqb selector 2 && (eqb address 4 || (eqb address 5 || eqb address 6)))))
 
 -- an access at an address and a position
-abbrev pub row : ℕ → ℕ → ℕ → ℕ → Bool → AccessRow Port
-row kind selector address position alters = record {
-  state = record {
-    colours = replicate facts.colours 0;
-    cursor = record { address = address; position = position; heldRed = 0; heldGreen = 0 };
-    registers = record { readMask = 0; blinkMask = 0; command = 0; test = 0 };
-  };
-  access = accessBy kind selector;
-  alters = alters;
+abbrev pub at : ℕ → ℕ → Port
+at address position = record {
+  colours = replicate facts.colours 0;
+  cursor = record { address = address; position = position; heldRed = 0; heldGreen = 0 };
+  registers = record { readMask = 0; blinkMask = 0; command = 0; test = 0 };
 }
+
+abbrev pub row : ℕ → ℕ → ℕ → ℕ → Bool → AccessRow Port
+row kind selector address position alters = record { state = at address position; access = accessBy kind selector; alters = alters }
 
 unfoldable pub table : List (AccessRow Port)
 table =
@@ -66,3 +70,31 @@ table =
 pub rows : T (all (agrees (λ p e. altersDisplay p (request p e))) table)
 unfolding table request select accessRefusal
 rows = tt
+
+-- ---- document 02's Note 5: what a write's answer says that it painted
+
+abbrev pub numbered : ℕ → ℕ → ℕ → ℕ → NumberRow Port
+numbered selector address position number = record { state = at address position; access = accessBy write selector; number = number }
+
+-- palette entries, overlays, and registers 04h, 05h, 06h
+unfoldable pub numberTable : List (NumberRow Port)
+numberTable =
+    numbered 1 0 2 0
+    ∷ numbered 1 255 2 255
+    ∷ numbered 3 0 2 256
+    ∷ numbered 3 3 2 259
+    ∷ numbered 2 4 0 260
+    ∷ numbered 2 5 1 261
+    ∷ numbered 2 6 2 262
+    ∷ []
+
+pub numberRows : T (all (numbers (λ p e. reply p (request p e))) numberTable)
+unfolding numberTable request select accessRefusal bytesOf
+numberRows = tt
+
+-- the entry that pixel i of a tick shows
+abbrev pub entryShown : State → Raw → ℕ → ℕ
+entryShown s t i = entryAt (s .port .registers) (blinkOn (s .port .registers .command) (s .display .blink)) (t .operand) i
+
+abbrev pub SaysPainted : Type 0
+SaysPainted = SaysWhatItPaints chip alters facts.entries entryShown

@@ -3,7 +3,7 @@ use Prim.Native.Nat.{ℕ, _+_}
 use mathlib.Core.Bool.{Bool, false, cond}
 use lib.Dec.{ltb, eqb}
 use Rattle.event.specs.Kinds as kinds
-use Rattle.event.specs.Answer.{Answer, refused, gave, done}
+use Rattle.event.specs.Answer.{Answer, refused, gave, done, written}
 use Rattle.event.specs.Event.{Raw, operandAt}
 use Rattle.colour.specs.Colour.{pointed, onward, held, stored, component}
 use Rattle.tlc34058.specs.State.{Registers, Port}
@@ -73,17 +73,6 @@ next p (getColour e) = record { colours = p .colours; cursor = onward (p .cursor
 next p (getRegister a) = p
 next p nothing = p
 
--- what an access answers
-abbrev pub reply : Port → Access → Answer
-reply p (refuse n) = refused n
-reply p (setAddress b) = done
-reply p (setColour e b) = done
-reply p (setRegister a b) = done
-reply p getAddress = gave (p .cursor .address)
-reply p (getColour e) = gave (component (p .colours) (p .cursor) e)
-reply p (getRegister a) = gave (register (p .registers) a)
-reply p nothing = done
-
 -- document 01's painting access: an unrefused colour write made at position 2, or an unrefused control write at 04h, 05h or 06h
 abbrev pub altersDisplay : Port → Access → Bool
 altersDisplay p (refuse n) = false
@@ -94,6 +83,31 @@ altersDisplay p getAddress = false
 altersDisplay p (getColour e) = false
 altersDisplay p (getRegister a) = false
 altersDisplay p nothing = false
+
+-- what it paints, as document 02's Note 5 numbers it: the entry, or 260, 261, 262 for registers 04h, 05h, 06h
+abbrev pub paintedNumber : Access → ℕ
+paintedNumber (refuse n) = 0
+paintedNumber (setAddress b) = 0
+paintedNumber (setColour e b) = e
+paintedNumber (setRegister a b) = 256 + a
+paintedNumber getAddress = 0
+paintedNumber (getColour e) = 0
+paintedNumber (getRegister a) = 0
+paintedNumber nothing = 0
+
+-- what an access answers: a write whether it paints, and what
+abbrev pub writeReply : Port → Access → Answer
+writeReply p x = written (altersDisplay p x) (paintedNumber x)
+
+abbrev pub reply : Port → Access → Answer
+reply p (refuse n) = refused n
+reply p (setAddress b) = writeReply p (setAddress b)
+reply p (setColour e b) = writeReply p (setColour e b)
+reply p (setRegister a b) = writeReply p (setRegister a b)
+reply p getAddress = gave (p .cursor .address)
+reply p (getColour e) = gave (component (p .colours) (p .cursor) e)
+reply p (getRegister a) = gave (register (p .registers) a)
+reply p nothing = done
 
 -- no access's answer looks at what display events move
 abbrev pub looksAtDisplay : Port → Access → Bool

@@ -43,6 +43,10 @@ codeOf colours r on shown pixel ol0 ol1 k = cond shown (getD colours (3 * entryO
 abbrev pub codeAt : List ℕ → Registers → Bool → ℕ → List ℕ → ℕ → ℕ → ℕ
 codeAt colours r on n o i k = codeOf colours r on (ltb i n) (getD o i 0) (bit i (getD o 5 0)) (bit i (getD o 6 0)) k
 
+-- the entry that pixel i shows
+abbrev pub entryAt : Registers → Bool → List ℕ → ℕ → ℕ
+entryAt r on o i = entryOf r on (getD o i 0) (bit i (getD o 5 0)) (bit i (getD o 6 0))
+
 -- red, green and blue of each pixel below n
 unfoldable pub codesUpTo : (ℕ → ℕ → ℕ) → ℕ → List ℕ
 codesUpTo f zero = []

@@ -1,9 +1,10 @@
 // Writes and reads through C1 and C0.
 ghost use mathlib.Core.Path.{_≡_};
 ghost use mathlib.Core.List.{List};
-ghost use Prim.Native.Nat.{ℕ, _≤_};
+ghost use Prim.Native.Nat.{ℕ, _+_, _≤_};
+ghost use lib.Dec.{ltb};
 ghost use lib.ListN.{length};
-ghost use Rattle.event.specs.Answer.{gave, answerLong};
+ghost use Rattle.event.specs.Answer.{gave, done, written, answerLong, bytesOf};
 ghost use Rattle.colour.specs.Struct.{cursorOf};
 ghost use Rattle.tlc34058.specs.Facts as facts;
 ghost use Rattle.tlc34058.specs.Port.{accessRefusal, writing, reading, next, reply, register as registerAt, withRegister};
@@ -86,7 +87,18 @@ fn set_register(c: Control, address: u8, byte: u8) -> Control
     next
 }
 
-// A write's answer has its refusal and nothing else.
+// A control write at an address from 04h to 07h. No tick sees 07h, so its write paints nothing.
+fn write_register(c: Control, address: u8, byte: u8, part: &mut [u8]) -> Control
+    requires { ⌜ now part ≡ bytesOf done ⌝ }
+    ensures { λ r. ⌜ (cursorOf (r .cursor) ≡ cursorOf (c .cursor)) × (registersOf r ≡ withRegister (registersOf c) address byte) × (r .blink ≡ c .blink) × (now (part .exit) ≡ bytesOf (written (ltb address 7) (256 + address))) ⌝ }
+{
+    if address < 7 {
+        event::put_painted(part, 256 + bytes::wide(address));
+    }
+    set_register(c, address, byte)
+}
+
+// A write's answer has its refusal, or what it painted.
 pub fn write(colours: &mut [u8], c: Control, selector: u8, byte: u8, part: &mut [u8]) -> Control
     requires { ⌜ (length (now colours) ≡ facts.colours) × (c .cursor .position .0 ≤ 2) × (length (now part) ≡ answerLong) ⌝ }
     ensures { λ r. ⌜ Accessed (joined (now (colours .entry)) c) (joined (now (colours .exit)) r) (writing (c .cursor .address .0) selector byte) (now (part .exit)) ⌝ }
@@ -103,12 +115,12 @@ pub fn write(colours: &mut [u8], c: Control, selector: u8, byte: u8, part: &mut 
         return with_cursor(c, cursor.point(Address(byte)));
     }
     if selector == 1 {
-        return with_cursor(c, cursor.write(colours, bytes::wide(at), byte));
+        return with_cursor(c, cursor.write(colours, bytes::wide(at), byte, part));
     }
     if selector == 3 {
-        return with_cursor(c, cursor.write(colours, 256 + bytes::wide(at), byte));
+        return with_cursor(c, cursor.write(colours, 256 + bytes::wide(at), byte, part));
     }
-    set_register(c, at, byte)
+    write_register(c, at, byte, part)
 }
 
 // The byte that a read gives where it isn't refused.

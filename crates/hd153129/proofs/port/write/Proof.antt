@@ -2,10 +2,11 @@
 use Rattle.hd153129.proofs.Selected.{write-refused, write-address, write-read-address, write-colour, write-mask, joined-by, accessed}
 use Rattle.hd153129.specs.Struct.{joined}
 use Rattle.hd153129.specs.Port.{next}
-use Rattle.colour.specs.Colour.{stored, pointed}
-use Rattle.event.specs.Answer.{answerOf}
+use Rattle.colour.specs.Colour.{stored, wrote, pointed}
+use Rattle.event.specs.Answer.{answerOf, bytesOf}
 use Rattle.event.proofs.Laws.{refused-bytes, done-bytes}
 use denote.Ref.{now}
+use native.Mathlib.Omega.{arith}
 use mathlib.Core.Path.{refl, sym, _∙_, ap}
 use Prim.Native.Nat.{_%_}
 use borrow.Author.Needs.{needs}
@@ -73,7 +74,12 @@ wide-requires : tie.Need-wide-requires
 wide-requires c κs = search needs
 
 write-requires : tie.Need-write-requires
-write-requires c κs = search needs
+write-requires c κs =
+    let pre = c .before .before .before .before .before .before .before .before .before .before .before .before .before .before .before .before .pre in
+    let if1 = c .before .before .before .before .before .before .if1 in
+    let put-answer = c .before .before .before .before .before .before .before .before .before .put-answer in
+    let wide = c .before .wide in
+    (pre .1, omega (arith, wide .ensures .1, pre .0), omega (arith, wide .ensures .1), put-answer .ensures ∙ ap (λ k. answerOf k 0) (if1 .left) ∙ done-bytes)
 
 with-cursor-requires : tie.Need-with-cursor-requires
 with-cursor-requires c κs = search needs
@@ -86,35 +92,40 @@ same-length-5 c = search needs
 
 returns-4 : tie.Need-returns-4
 returns-4 c =
-    let args = c .before .before .before .before .before .before .before .before .before .before .before .before .before .before .before .before .before .before .before .args in
-    let access-refusal = c .before .before .before .before .before .before .before .before .before .before .before .before .before .before .access-refusal in
-    let if1 = c .before .before .before .before .before .before .before .before .before .if1 in
-    let if2 = c .before .before .before .before .before .before .before .before .if2 in
-    let if3 = c .before .before .before .before .before .before .before .if3 in
-    let if4 = c .before .before .before .before .before .before .if4 in
-    let put-answer = c .before .before .before .before .before .before .before .before .before .before .before .before .put-answer in
-    let wide = c .before .before .before .before .wide in
-    let write = c .before .before .before .write in
+    let args = c .before .before .before .before .before .before .before .before .before .before .before .before .before .before .before .before .before .before .before .before .before .before .args in
+    let access-refusal = c .before .before .before .before .before .before .before .before .before .before .before .before .before .before .before .before .before .access-refusal in
+    let if1 = c .before .before .before .before .before .before .before .before .before .before .before .before .if1 in
+    let if2 = c .before .before .before .before .before .before .before .before .before .before .before .if2 in
+    let if3 = c .before .before .before .before .before .before .before .before .before .before .if3 in
+    let if4 = c .before .before .before .before .before .before .before .before .before .if4 in
+    let wide = c .before .before .before .before .before .before .before .wide in
+    let write = c .before .before .before .before .before .write in
     let with-cursor = c .with-cursor in
     let s = joined (now (args .colours)) (args .c) in
     let stores = write .ensures .1 ∙ ap (λ e. stored (now (args .colours)) (s .cursor) e (args .byte % 64)) (wide .ensures .0) in
     accessed (write-colour _ _ (args .byte) (sym (access-refusal .ensures) ∙ if1 .left) (if2 .left) (if3 .left) (if4 .taken))
     (joined-by _ _ _ _ _ _ stores (with-cursor .ensures .0 ∙ write .ensures .0) (with-cursor .ensures .1) (with-cursor .ensures .2))
-    (put-answer .ensures ∙ ap (λ k. answerOf k 0) (if1 .left) ∙ done-bytes)
+    (write .ensures .2 ∙ ap (λ e. bytesOf (wrote (s .cursor) e)) (wide .ensures .0))
+
+put-painted-requires : tie.Need-put-painted-requires
+put-painted-requires c κs =
+    let if1 = c .before .before .before .before .if1 in
+    let put-answer = c .before .before .before .before .before .before .before .put-answer in
+    (put-answer .ensures ∙ ap (λ k. answerOf k 0) (if1 .left) ∙ done-bytes, omega arith)
 
 same-length-6 : tie.Need-same-length-6
 same-length-6 c = search needs
 
 returns-5 : tie.Need-returns-5
 returns-5 c =
-    let args = c .before .before .before .before .before .before .before .before .before .before .before .before .before .args in
-    let access-refusal = c .before .before .before .before .before .before .before .before .access-refusal in
-    let if1 = c .before .before .before .if1 in
-    let if2 = c .before .before .if2 in
-    let if3 = c .before .if3 in
-    let if4 = c .if4 in
-    let put-answer = c .before .before .before .before .before .before .put-answer in
-    accessed (write-mask _ _ (args .byte) (sym (access-refusal .ensures) ∙ if1 .left) (if2 .left) (if3 .left) (if4 .left)) refl (put-answer .ensures ∙ ap (λ k. answerOf k 0) (if1 .left) ∙ done-bytes)
+    let args = c .before .before .before .before .before .before .before .before .before .before .before .before .before .before .before .before .before .args in
+    let access-refusal = c .before .before .before .before .before .before .before .before .before .before .before .before .access-refusal in
+    let if1 = c .before .before .before .before .before .before .before .if1 in
+    let if2 = c .before .before .before .before .before .before .if2 in
+    let if3 = c .before .before .before .before .before .if3 in
+    let if4 = c .before .before .before .before .if4 in
+    let put-painted = c .before .before .put-painted in
+    accessed (write-mask _ _ (args .byte) (sym (access-refusal .ensures) ∙ if1 .left) (if2 .left) (if3 .left) (if4 .left)) refl (put-painted .ensures)
 
 pub write-spec : {M : Type 1} → statement M
 write-spec =
@@ -137,5 +148,6 @@ write-spec =
     same-length-4
     same-length-5
     returns-4
+    put-painted-requires
     same-length-6
     returns-5)

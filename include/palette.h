@@ -18,8 +18,8 @@ extern "C" {
 
 /* The version: three numbers for #if, and the text "major.minor.patch". */
 #define PALETTE_VERSION_MAJOR 0
-#define PALETTE_VERSION_MINOR 4
-#define PALETTE_VERSION_PATCH 1
+#define PALETTE_VERSION_MINOR 5
+#define PALETTE_VERSION_PATCH 0
 #define PALETTE_VERSION                                                        \
     PALETTE_VERSION_TEXT(PALETTE_VERSION_MAJOR, PALETTE_VERSION_MINOR,         \
                          PALETTE_VERSION_PATCH)
@@ -98,9 +98,10 @@ enum palette_kind {
  */
 
 /* Event i's answer starts at byte PALETTE_ANSWER_BYTES * i. Byte 0 is 0 or the
- * refusal. A read has its byte in byte 1. A tick has its number of pixels in
- * byte 1, its levels in byte 2, and red, green and blue of each pixel from
- * byte 3. Every other byte is 0.
+ * refusal. A read has its byte in byte 1. A write that painted has 1 in byte 1
+ * and the number of what it painted in bytes 2 and 3, low byte first. A tick has
+ * its number of pixels in byte 1, its levels in byte 2, and red, green and blue
+ * of each pixel from byte 3. Every other byte is 0.
  *
  * A TMS34070's tick has two pixels, DA and DB, with codes of 4 bits, and in byte
  * 2 DATEN (bit 0) and the EXT bits of DA (bit 1) and of DB (bit 2); with DATEN
@@ -112,6 +113,30 @@ enum palette_kind {
  * PALETTE_REFUSED_ANSWER_BUFFER; or with PALETTE_REFUSED_LOG_LENGTH if that
  * program reads only PALETTE_MOST_LOG_BYTES + 1 bytes of a log, then 27,006. */
 #define PALETTE_MOST_ANSWER_BYTES (PALETTE_ANSWER_BYTES * PALETTE_MOST_EVENTS)
+
+/* What a write painted: a palette entry has its number, 0 to 255, overlay k is
+ * PALETTE_PAINTED_OVERLAY + k, and the registers that painting goes through have
+ * the numbers here. After a write that painted an entry or an overlay every pixel
+ * that shows another one looks as it did; after one that painted a register any
+ * may look different; after any other write all look as they did. A write paints
+ * though it writes what is there already.
+ *
+ * The answers of a library before version 0.5.0 don't say what a write painted:
+ * it has 0 in these bytes. A TMS34070 has no writes, and its loads answer
+ * zeros. */
+enum palette_painted {
+    PALETTE_PAINTED_OVERLAY = 256,
+    /* TLC34058: registers 04h, 05h and 06h. */
+    PALETTE_PAINTED_READ_MASK = 260,
+    PALETTE_PAINTED_BLINK_MASK = 261,
+    PALETTE_PAINTED_COMMAND = 262,
+    /* HD153129. */
+    PALETTE_PAINTED_PIXEL_MASK = 260
+};
+/* That number; `answer` is the answer to a write that has 1 in byte 1. It is
+ * evaluated twice. */
+#define PALETTE_PAINTED(answer)                                                \
+    ((unsigned)(uint8_t)(answer)[2] + 256u * (unsigned)(uint8_t)(answer)[3])
 
 /*
  * Currents.

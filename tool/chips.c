@@ -65,3 +65,19 @@ void name_place(const struct chip *chip, size_t place, char *name)
     size_t len = strlen(name);
     snprintf(name + len, NAME_ROOM - len, " %s", own);
 }
+
+void name_painted(const struct chip *chip, unsigned number, char *name)
+{
+    if (number < chip->entries) {
+        chip->name_entry(number, name);
+        return;
+    }
+    for (size_t i = 0; i < chip->painted_count; i++) {
+        if (chip->painted[i].number == number) {
+            name_place(chip, chip->painted[i].place, name);
+            return;
+        }
+    }
+    /* The library knows something that the tool doesn't. */
+    snprintf(name, NAME_ROOM, "number %u", number);
+}

@@ -30,6 +30,12 @@ struct place {
     bool is_count; /* printed in decimal, not as a byte */
 };
 
+/* A register that writes paint, by the number in their answers, and its place. */
+struct painted {
+    unsigned number;
+    size_t place;
+};
+
 struct chip {
     uint8_t number;
     const char *name;
@@ -44,6 +50,8 @@ struct chip {
     void (*print_rest)(const struct chip *chip, const uint8_t *places);
     const char *const *selectors; /* the names of the first ones */
     size_t selector_count;
+    const struct painted *painted; /* the registers that writes paint */
+    size_t painted_count;
     struct fields tick;
     const char *pixel_bit; /* what each pixel has beside its colour, or NULL */
 };
@@ -73,7 +81,9 @@ size_t places_of_entries(const struct chip *chip);
 /* Whether a place's value is printed in decimal. */
 bool is_count(const struct chip *chip, size_t place);
 
-/* A name of at most NAME_ROOM bytes with the one that ends it. */
+/* A name of at most NAME_ROOM bytes with the one that ends it: of a place, and of
+ * what a write painted, by the number in its answer. */
 void name_place(const struct chip *chip, size_t place, char *name);
+void name_painted(const struct chip *chip, unsigned number, char *name);
 
 #endif

@@ -29,6 +29,8 @@ static const struct place rest[PLACES - ADDRESS] = {
     [PIXEL_MASK - ADDRESS] = {"pixel mask register", false},
 };
 
+static const struct painted painted[] = {{PALETTE_PAINTED_PIXEL_MASK, PIXEL_MASK}};
+
 static const char *const selectors[] = {"address", "colour", "mask", "read-address"};
 
 static const struct field tick[] = {{NULL, 0}, {"levels", 7}};
@@ -67,5 +69,7 @@ const struct chip hd153129 = {
     .print_rest = print_rest,
     .selectors = selectors,
     .selector_count = sizeof selectors / sizeof selectors[0],
+    .painted = painted,
+    .painted_count = sizeof painted / sizeof painted[0],
     .tick = {tick, sizeof tick / sizeof tick[0]},
 };

@@ -28,6 +28,12 @@ static bool is_shown_tick(const struct played *played, size_t event)
            answer_to(played, event)[0] == PALETTE_ACCEPTED;
 }
 
+/* Byte 1 of another event's answer says something else. */
+static bool is_painting_write(const struct played *played, size_t event)
+{
+    return kind_of(played->log, event) == PALETTE_KIND_WRITE && answer_to(played, event)[1] == 1;
+}
+
 static void print_pixel_bits(const struct chip *chip, const uint8_t *answer)
 {
     print(", %s", chip->pixel_bit);
@@ -44,6 +50,13 @@ static void print_tick(const struct played *played, size_t event)
     if (played->chip->pixel_bit != NULL)
         print_pixel_bits(played->chip, answer);
     print("\n");
+}
+
+static void print_painted(const struct played *played, size_t event)
+{
+    char name[NAME_ROOM];
+    name_painted(played->chip, PALETTE_PAINTED(answer_to(played, event)), name);
+    print("event %zu, write: painted %s\n", event, name);
 }
 
 static void print_refused(const struct played *played, size_t event)
@@ -65,6 +78,8 @@ static void print_played(const struct played *played)
         } else if (is_shown_tick(played, event)) {
             print_tick(played, event);
             ticks++;
+        } else if (is_painting_write(played, event)) {
+            print_painted(played, event);
         }
     }
     print("%zu events, %zu ticks shown, %zu refused, end snapshot of %zu bytes\n", events, ticks,
@@ -164,9 +179,9 @@ static int play(const struct words *words)
 const struct subcommand run_subcommand = {
     .name = "run",
     .synopsis = "[--end FILE] [--ppm FILE] SNAPSHOT LOG",
-    .help = "Plays a log from a snapshot. Prints each tick's pixels as colours #rrggbb, in\n"
-            "the chip's own codes, of a TMS34070 also their EXT bits, and each event that the\n"
-            "chip refuses.\n"
+    .help = "Plays a log from a snapshot. Prints what each write painted, each tick's pixels\n"
+            "as colours #rrggbb, in the chip's own codes, of a TMS34070 also their EXT bits,\n"
+            "and each event that the chip refuses.\n"
             "\n"
             "SNAPSHOT may be fresh: the fresh chip that the log names, or a fresh chip 1\n"
             "where it names none.\n"

@@ -33,6 +33,12 @@ static const struct place rest[PLACES - ADDRESS] = {
     [BLINK_COUNT - ADDRESS] = {"blink count", true},
 };
 
+static const struct painted painted[] = {
+    {PALETTE_PAINTED_READ_MASK, READ_MASK},
+    {PALETTE_PAINTED_BLINK_MASK, BLINK_MASK},
+    {PALETTE_PAINTED_COMMAND, COMMAND},
+};
+
 static const char *const selectors[] = {"address", "palette", "control", "overlay"};
 
 static const struct field tick[] = {
@@ -113,5 +119,7 @@ const struct chip tlc34058 = {
     .print_rest = print_rest,
     .selectors = selectors,
     .selector_count = sizeof selectors / sizeof selectors[0],
+    .painted = painted,
+    .painted_count = sizeof painted / sizeof painted[0],
     .tick = {tick, sizeof tick / sizeof tick[0]},
 };

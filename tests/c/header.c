@@ -24,6 +24,9 @@ FACT(events, PALETTE_MOST_EVENTS == 7000);
 FACT(most_log, PALETTE_MOST_LOG_BYTES == 63005);
 FACT(answer, PALETTE_ANSWER_BYTES == 18);
 FACT(answers, PALETTE_MOST_ANSWER_BYTES == 126000);
+FACT(painted, PALETTE_PAINTED_OVERLAY == 256 && PALETTE_PAINTED_READ_MASK == 260 &&
+                  PALETTE_PAINTED_BLINK_MASK == 261 && PALETTE_PAINTED_COMMAND == 262 &&
+                  PALETTE_PAINTED_PIXEL_MASK == 260);
 FACT(outputs, PALETTE_OUTPUT_GREEN == 0 && PALETTE_OUTPUT_RED == 1 && PALETTE_OUTPUT_BLUE == 2);
 FACT(currents, PALETTE_TICK_PIXELS == 5 && PALETTE_CURRENTS_BYTES == 48);
 
@@ -65,6 +68,13 @@ size_t example(void)
     uint64_t result = palette_run(snapshot, sizeof snapshot, log_bytes, sizeof log_bytes,
                                   NULL, 0, end_buffer, sizeof end_buffer);
     return PALETTE_REFUSAL(result) == PALETTE_ACCEPTED ? PALETTE_LENGTH(result) : 0;
+}
+
+unsigned painted(const uint8_t *answers, size_t event);
+
+unsigned painted(const uint8_t *answers, size_t event)
+{
+    return PALETTE_PAINTED(answers + PALETTE_ANSWER_BYTES * event);
 }
 
 extern const uint8_t operand[PALETTE_OPERAND_BYTES];

@@ -1,6 +1,6 @@
-//! The data sheets' tables, the TMS34070's paragraphs and document 01's marked
-//! lines as examples with the answers and end snapshots worked out by hand from
-//! the papers.
+//! The data sheets' tables, the TMS34070's paragraphs, document 01's marked lines
+//! and document 02's Note 5 as examples with the answers and end snapshots worked
+//! out by hand from the papers.
 
 mod tms34070;
 
@@ -22,7 +22,7 @@ pub struct Example {
     end: Places,
 }
 
-/// A table or a paragraph of a data sheet, or 01's marked lines.
+/// A table or a paragraph of a data sheet, 01's marked lines, or 02's Note 5.
 pub struct Sheet {
     pub name: &'static str,
     pub examples: fn() -> Vec<Example>,
@@ -74,6 +74,14 @@ pub const SHEETS: &[Sheet] = &[
         examples: hd_modes,
     },
     Sheet {
+        name: "02's Note 5: what a TLC34058's write painted",
+        examples: painted_on_chip_1,
+    },
+    Sheet {
+        name: "02's Note 5: what an HD153129's write painted",
+        examples: painted_on_chip_2,
+    },
+    Sheet {
         name: "TMS34070 registers: loaded in the order 0 to 15, the left half first",
         examples: tms34070::loads,
     },
@@ -121,7 +129,7 @@ impl Example {
     }
 }
 
-/// Answers of a write, a load, a vertical period or a save.
+/// Answers of a write that doesn't paint, a load, a vertical period or a save.
 const NOTHING: &[u8] = &[0];
 
 fn example(name: &str, chip: u8, start: &[(u16, u8)]) -> Example {
@@ -144,11 +152,18 @@ impl Example {
         self
     }
 
+    /// Writes that don't paint.
     fn writes(mut self, selector: u8, bytes: &[u8]) -> Example {
         for &byte in bytes {
             self = self.event(write(selector, byte), NOTHING);
         }
         self
+    }
+
+    /// A write that paints, with the number of what it paints.
+    fn paints(self, selector: u8, byte: u8, number: u16) -> Example {
+        let answer = [0, 1, (number % 256) as u8, (number / 256) as u8];
+        self.event(write(selector, byte), &answer)
     }
 
     fn reads(mut self, selector: u8, bytes: &[u8]) -> Example {
@@ -187,12 +202,14 @@ fn marked_lines() -> Vec<Example> {
     vec![
         example("M1 palette triple at FFh", 1, &[])
             .writes(0, &[0xFF])
-            .writes(1, &[0x10, 0x20, 0x30])
+            .writes(1, &[0x10, 0x20])
+            .paints(1, 0x30, 255)
             .ends(&[(765, 0x10), (766, 0x20), (767, 0x30)])
             .ends(&[(782, 0x10), (783, 0x20)]),
         example("M2 overlay triple at 3", 1, &[])
             .writes(0, &[3])
-            .writes(3, &[1, 2, 3])
+            .writes(3, &[1, 2])
+            .paints(3, 3, 259)
             .event(write(3, 9), &[2])
             .reads(0, &[4])
             .ends(&[(777, 1), (778, 2), (779, 3), (780, 4), (782, 1), (783, 2)]),
@@ -203,7 +220,7 @@ fn marked_lines() -> Vec<Example> {
             .ends(&[(781, 1), (782, 0x22)]),
         example("M4 reads, then a write", 1, &[])
             .reads(1, &[0, 0])
-            .writes(1, &[7])
+            .paints(1, 7, 0)
             .ends(&[(2, 7), (780, 1)]),
         example("M5 control reads at 8 and 7", 1, &[])
             .writes(0, &[8])
@@ -231,7 +248,7 @@ fn marked_lines() -> Vec<Example> {
             .reads(0, &[0])
             .writes(1, &[2])
             .reads(3, &[0])
-            .writes(1, &[3])
+            .paints(1, 3, 0)
             .ends(&[(0, 1), (1, 2), (2, 3), (768, 1), (771, 1), (772, 2)]),
         example("01's printing example", 2, &[])
             .writes(0, &[5])
@@ -262,7 +279,7 @@ fn colour_rows(selector: u8, address: u8, entry: u16) -> Vec<Example> {
             .writes(selector, &[0x77])
             .ends(&[(781, 2), (783, 0x77)]),
         at(2)
-            .writes(selector, &[0x77])
+            .paints(selector, 0x77, entry)
             .ends(&[(3 * entry, 0x51), (3 * entry + 1, 0x52)])
             .ends(&[(3 * entry + 2, 0x77)])
             .ends(&moved),
@@ -298,14 +315,17 @@ fn table_3() -> Vec<Example> {
     for address in 4..=7u8 {
         for position in 1..=2 {
             let place = 780 + u16::from(address);
-            rows.push(
-                example("control register", 1, &[(780, address), (781, position)])
-                    .writes(2, &[0xA5])
-                    .reads(2, &[0xA5])
-                    .writes(2, &[0xAF])
-                    .reads(2, &[0xAF])
-                    .ends(&[(place, 0xAF)]),
-            );
+            let mut row = example("control register", 1, &[(780, address), (781, position)]);
+            for byte in [0xA5, 0xAF] {
+                row = match address {
+                    4 => row.paints(2, byte, 260),
+                    5 => row.paints(2, byte, 261),
+                    6 => row.paints(2, byte, 262),
+                    _ => row.writes(2, &[byte]),
+                };
+                row = row.reads(2, &[byte]);
+            }
+            rows.push(row.ends(&[(place, 0xAF)]));
         }
     }
     rows
@@ -563,7 +583,7 @@ fn hd_table_2() -> Vec<Example> {
                 .writes(3, &[0x2A])
                 .ends(&[(768, 0x2B), (769, 0), (770, 1)]),
         );
-        rows.push(row().writes(2, &[0x2A]).ends(&[(773, 0x2A)]));
+        rows.push(row().paints(2, 0x2A, 260).ends(&[(773, 0x2A)]));
         rows.push(row().reads(0, &[0x10]));
         rows.push(row().reads(3, &[0x10]));
         rows.push(row().reads(2, &[0xC5]));
@@ -574,7 +594,7 @@ fn hd_table_2() -> Vec<Example> {
 
 /// Mask 1010 1101: planes 6, 4 and 1 are shut off.
 fn hd_table_3() -> Vec<Example> {
-    let mut row = numbered_chip(2, &[]).writes(2, &[0b1010_1101]);
+    let mut row = numbered_chip(2, &[]).paints(2, 0b1010_1101, 260);
     for pixel in 0..=255u8 {
         let mut address = 0;
         for (plane, weight) in [(7, 128), (5, 32), (3, 8), (2, 4), (0, 1)] {
@@ -593,7 +613,12 @@ fn hd_modes() -> Vec<Example> {
     vec![
         example("write mode", 2, &[])
             .writes(0, &[0xFE])
-            .writes(1, &[1, 2, 3, 4, 5, 6, 7, 8, 9])
+            .writes(1, &[1, 2])
+            .paints(1, 3, 254)
+            .writes(1, &[4, 5])
+            .paints(1, 6, 255)
+            .writes(1, &[7, 8])
+            .paints(1, 9, 0)
             .reads(0, &[1])
             .ends(&colours)
             .ends(&[(768, 1), (771, 7), (772, 8)]),
@@ -607,7 +632,8 @@ fn hd_modes() -> Vec<Example> {
             .reads(1, &[7, 8, 9])
             .ends(&[(768, 2), (770, 1)]),
         example("6 bits", 2, &[])
-            .writes(1, &[0xFF, 0x40, 0xC5])
+            .writes(1, &[0xFF, 0x40])
+            .paints(1, 0xC5, 0)
             .writes(3, &[0])
             .reads(1, &[0x3F, 0, 5])
             .ends(&[(0, 0x3F), (2, 5), (768, 2), (770, 1), (771, 0x3F)]),
@@ -616,4 +642,83 @@ fn hd_modes() -> Vec<Example> {
             .event(tick([0, 0, 0, 0, 0, 0, 0, 1]), &[0, 1, 1, 7, 8, 9])
             .event(tick([0, 0, 0, 0, 0, 0, 0, 2]), &[4]),
     ]
+}
+
+/// Every address, at every position: the write that ends a triple paints its
+/// entry or its overlay, one of 04h, 05h or 06h its register, and no other
+/// write paints. The byte is there already, or it isn't.
+fn painted_on_chip_1() -> Vec<Example> {
+    let mut rows = Vec::new();
+    for address in 0..=255u8 {
+        for position in 0..=2 {
+            let mut start = vec![(780, address), (781, position)];
+            start.retain(|&(_, value)| value != 0);
+            let row = || example("what a write painted", 1, &start);
+            let moved = match position {
+                2 => vec![(780, address.wrapping_add(1)), (781, 0)],
+                _ => vec![(781, position + 1)],
+            };
+            let palette = match position {
+                2 => row().paints(1, 0, u16::from(address)),
+                _ => row().writes(1, &[0]),
+            };
+            rows.push(palette.ends(&moved));
+            rows.push(match address {
+                0..=3 if position == 2 => row().paints(3, 0, 256 + u16::from(address)).ends(&moved),
+                0..=3 => row().writes(3, &[0]).ends(&moved),
+                _ => row().event(write(3, 0), &[2]),
+            });
+            rows.push(match address {
+                4 => row()
+                    .paints(2, 0, 260)
+                    .paints(2, 0x5A, 260)
+                    .ends(&[(784, 0x5A)]),
+                5 => row()
+                    .paints(2, 0, 261)
+                    .paints(2, 0x5A, 261)
+                    .ends(&[(785, 0x5A)]),
+                6 => row()
+                    .paints(2, 0, 262)
+                    .paints(2, 0x5A, 262)
+                    .ends(&[(786, 0x5A)]),
+                7 => row().writes(2, &[0, 0x5A]).ends(&[(787, 0x5A)]),
+                _ => row().event(write(2, 0x5A), &[2]),
+            });
+            rows.push(row().event(write(4, 0), &[1]));
+            rows.push(row().writes(0, &[0x5A]).ends(&[(780, 0x5A), (781, 0)]));
+        }
+    }
+    rows
+}
+
+/// Every address, at every position and in each direction: the write that ends
+/// a triple paints its entry, a mask write the mask, and no other write paints.
+fn painted_on_chip_2() -> Vec<Example> {
+    let mut rows = Vec::new();
+    for address in 0..=255u8 {
+        for (position, direction) in [(0, 0), (1, 0), (2, 0), (0, 1), (1, 1), (2, 1)] {
+            let mut start = vec![(768, address), (769, position), (770, direction)];
+            start.retain(|&(_, value)| value != 0);
+            let row = || example("what a write painted", 2, &start);
+            rows.push(match (direction, position) {
+                (1, _) => row().event(write(1, 0), &[3]),
+                (_, 2) => row()
+                    .paints(1, 0, u16::from(address))
+                    .ends(&[(768, address.wrapping_add(1)), (769, 0)]),
+                _ => row().writes(1, &[0]).ends(&[(769, position + 1)]),
+            });
+            rows.push(
+                row()
+                    .paints(2, 0, 260)
+                    .paints(2, 0x5A, 260)
+                    .ends(&[(773, 0x5A)]),
+            );
+            rows.push(row().event(write(4, 0), &[1]));
+            for (selector, set) in [(0, 0x5A), (3, 0x5B)] {
+                let ends = [(768, set), (769, 0), (770, u8::from(selector == 3))];
+                rows.push(row().writes(selector, &[0x5A]).ends(&ends));
+            }
+        }
+    }
+    rows
 }

@@ -6,7 +6,7 @@ use crate::tool::classes::{ASSEMBLED, LONG_LOG, LONG_SNAPSHOT, NOT_UNDERSTOOD};
 use crate::tool::classes::{CURRENTS_BLANKED, CURRENTS_FIVE, CURRENTS_FOUR};
 use crate::tool::classes::{LISTED_CHIPS, LISTED_EMPTY, LISTED_LOADS, LISTED_MOST};
 use crate::tool::classes::{LISTED_PIECES, LISTED_VERTICALS, SHOWN_CHIPS, SHOWN_DIFFERENT};
-use crate::tool::classes::{RUN_BLANKED, RUN_CHIPS, RUN_PIXEL_BITS, RUN_TICK};
+use crate::tool::classes::{RUN_BLANKED, RUN_CHIPS, RUN_PAINTED, RUN_PIXEL_BITS, RUN_TICK};
 use crate::tool::input::{Input, Sort};
 use crate::tool::modelled::{self, refusal_of_log, refusal_of_snapshot, Outcome, Run};
 use crate::tool::{printed, Tool};
@@ -154,7 +154,7 @@ pub fn played_to_the_end(tool: &Tool, input: &Input) -> Checked {
     })
 }
 
-/// The refusals and the sorts of ticks in a run.
+/// The refusals, the sorts of ticks and what writes painted in a run.
 fn seen_in(run: &Run) -> Seen {
     let mut seen = Seen {
         parts: vec![of_chip(&RUN_CHIPS, run.chip)],
@@ -171,6 +171,14 @@ fn seen_in(run: &Run) -> Seen {
             if printed::has_pixel_bit(run.chip, answer) {
                 seen.parts.push(RUN_PIXEL_BITS);
             }
+        } else if let Some(number) = printed::painted(event, answer) {
+            let [entry, overlay, register, mask] = RUN_PAINTED;
+            seen.parts.push(match (run.chip, number) {
+                (_, 0..=255) => entry,
+                (1, 256..=259) => overlay,
+                (1, _) => register,
+                _ => mask,
+            });
         }
     }
     seen

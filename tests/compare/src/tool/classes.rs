@@ -51,6 +51,12 @@ pub const RUN_CHIPS: [&str; CHIPS.len()] = [
 ];
 pub const RUN_TICK: &str = "tool: run and the end snapshot: ticks not blanked";
 pub const RUN_BLANKED: &str = "tool: run and the end snapshot: ticks blanked";
+pub const RUN_PAINTED: [&str; 4] = [
+    "tool: run and the end snapshot: palette entries painted",
+    "tool: run and the end snapshot: overlays painted",
+    "tool: run and the end snapshot: chip 1's registers painted",
+    "tool: run and the end snapshot: chip 2's mask painted",
+];
 pub const RUN_PIXEL_BITS: &str = "tool: run and the end snapshot: ticks with EXT bits";
 pub const LONG_LOG: &str = "tool: inputs longer than any buffer: logs";
 pub const LONG_SNAPSHOT: &str = "tool: inputs longer than any buffer: snapshots";
@@ -107,6 +113,10 @@ pub const CLASSES: &[Class] = &[
             RUN_TICK,
             RUN_BLANKED,
             RUN_PIXEL_BITS,
+            RUN_PAINTED[0],
+            RUN_PAINTED[1],
+            RUN_PAINTED[2],
+            RUN_PAINTED[3],
         ],
         table: Some(&RUN),
         make: make::accepted_run,

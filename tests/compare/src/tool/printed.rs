@@ -3,6 +3,7 @@
 
 use crate::tool::modelled::{Currents, Run};
 use kit::{entry_places, is_tick, p1, p3, table_places};
+use model::{kind, Event};
 
 /// The words for the kinds of events, by their numbers.
 const KINDS: [&str; 6] = ["write", "read", "tick", "vertical", "save", "load"];
@@ -103,6 +104,23 @@ fn tick_line(number: usize, chip: u8, answer: &[u8]) -> String {
     line
 }
 
+/// What a write painted, by its answer: 1 in byte 1, the number in bytes 2 and 3.
+pub fn painted(event: &Event, answer: &[u8]) -> Option<usize> {
+    let number = usize::from(u16::from_le_bytes([answer[2], answer[3]]));
+    (event.kind == kind::WRITE && answer[1] == 1).then_some(number)
+}
+
+/// The registers that pixels go through, by the numbers of what was painted.
+fn painted_name(chip: u8, number: usize) -> String {
+    match (chip, number) {
+        (1, 260) => "read mask register (04h)".into(),
+        (1, 261) => "blink mask register (05h)".into(),
+        (1, 262) => "command register (06h)".into(),
+        (2, 260) => "pixel mask register".into(),
+        _ => entry_name(chip, number),
+    }
+}
+
 /// What `run` prints.
 pub fn of_run(run: &Run) -> Vec<Line> {
     let (mut ticks, mut refused) = (0, 0);
@@ -116,6 +134,11 @@ pub fn of_run(run: &Run) -> Vec<Line> {
         } else if is_tick(event) {
             lines.push(Line::Whole(tick_line(number, run.chip, answer)));
             ticks += 1;
+        } else if let Some(painted) = painted(event, answer) {
+            let name = painted_name(run.chip, painted);
+            lines.push(Line::Whole(format!(
+                "event {number}, write: painted {name}"
+            )));
         }
     }
     lines.push(Line::Whole(format!(

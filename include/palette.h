@@ -115,15 +115,14 @@ enum palette_kind {
 #define PALETTE_MOST_ANSWER_BYTES (PALETTE_ANSWER_BYTES * PALETTE_MOST_EVENTS)
 
 /* What a write painted: a palette entry has its number, 0 to 255, overlay k is
- * PALETTE_PAINTED_OVERLAY + k, and the registers that painting goes through have
- * the numbers here. After a write that painted an entry or an overlay every pixel
- * that shows another one looks as it did; after one that painted a register any
- * may look different; after any other write all look as they did. A write paints
- * though it writes what is there already.
+ * PALETTE_PAINTED_OVERLAY + k, and the registers that pixels go through have the
+ * numbers here. After a write that painted an entry or an overlay every pixel that
+ * shows another one looks as it did; after one that painted a register any may
+ * look different; after a write with 0 in byte 1 all look as they did. A write
+ * paints though it writes what is there already.
  *
- * The answers of a library before version 0.5.0 don't say what a write painted:
- * it has 0 in these bytes. A TMS34070 has no writes, and its loads answer
- * zeros. */
+ * A library before version 0.5.0 has 0 in these bytes, whatever a write painted. A
+ * TMS34070 has no writes, and its loads answer zeros. */
 enum palette_painted {
     PALETTE_PAINTED_OVERLAY = 256,
     /* TLC34058: registers 04h, 05h and 06h. */

@@ -79,9 +79,10 @@ pub numberRows : T (all (numbers (λ s e. reply s (request s e))) numberTable)
 unfolding numberTable request requestWrite requestRead accessRefusal bytesOf
 numberRows = tt
 
--- the entry that a tick's pixel shows
+-- the entry that a tick's one pixel shows
 abbrev pub entryShown : State → Raw → ℕ → ℕ
 entryShown s t i = entryAt (s .mask) (t .operand)
 
+-- its writes say what they paint: entries have numbers below 256, the mask another
 abbrev pub SaysPainted : Type 0
 SaysPainted = SaysWhatItPaints chip alters facts.entries entryShown

@@ -77,7 +77,7 @@ altersDisplay s getColour = false
 altersDisplay s getMask = false
 altersDisplay s nothing = false
 
--- what it paints, as document 02's Note 5 numbers it: the entry, or 260 for the mask
+-- what it paints, as document 02's Note 5 numbers it: the entry, or 260 for the mask (0 where nothing can be painted)
 abbrev pub paintedNumber : State → Access → ℕ
 paintedNumber s (refuse n) = 0
 paintedNumber s (setAddress a d) = 0
@@ -88,10 +88,11 @@ paintedNumber s getColour = 0
 paintedNumber s getMask = 0
 paintedNumber s nothing = 0
 
--- what an access answers: a write whether it paints, and what; a colour read the component of the entry before the address
+-- a write that isn't refused answers what it paints, if it paints
 abbrev pub writeReply : State → Access → Answer
 writeReply s x = written (altersDisplay s x) (paintedNumber s x)
 
+-- what an access answers: a colour read the component of the entry before the address
 abbrev pub reply : State → Access → Answer
 reply s (refuse n) = refused n
 reply s (setAddress a d) = writeReply s (setAddress a d)

@@ -96,5 +96,6 @@ numberRows = tt
 abbrev pub entryShown : State → Raw → ℕ → ℕ
 entryShown s t i = entryAt (s .port .registers) (blinkOn (s .port .registers .command) (s .display .blink)) (t .operand) i
 
+-- its writes say what they paint: palette entries and overlays have numbers below 260, registers others
 abbrev pub SaysPainted : Type 0
 SaysPainted = SaysWhatItPaints chip alters facts.entries entryShown

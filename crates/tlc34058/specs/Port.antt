@@ -84,7 +84,7 @@ altersDisplay p (getColour e) = false
 altersDisplay p (getRegister a) = false
 altersDisplay p nothing = false
 
--- what it paints, as document 02's Note 5 numbers it: the entry, or 260, 261, 262 for registers 04h, 05h, 06h
+-- what it paints, as document 02's Note 5 numbers it: the entry, or 260, 261, 262 for registers 04h, 05h, 06h (0 where nothing can be painted)
 abbrev pub paintedNumber : Access → ℕ
 paintedNumber (refuse n) = 0
 paintedNumber (setAddress b) = 0
@@ -95,10 +95,11 @@ paintedNumber (getColour e) = 0
 paintedNumber (getRegister a) = 0
 paintedNumber nothing = 0
 
--- what an access answers: a write whether it paints, and what
+-- a write that isn't refused answers what it paints, if it paints
 abbrev pub writeReply : Port → Access → Answer
 writeReply p x = written (altersDisplay p x) (paintedNumber x)
 
+-- what an access answers
 abbrev pub reply : Port → Access → Answer
 reply p (refuse n) = refused n
 reply p (setAddress b) = writeReply p (setAddress b)

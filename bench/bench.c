@@ -4,8 +4,8 @@
  *
  *   bench [REPEATS]
  *
- * A log's time is the smallest of the repeats; a mix's time is the sum over
- * its logs, divided by its events.
+ * A log's time is the smallest of the repeats, which are more for short logs; a
+ * mix's time is the sum over its logs, divided by its events.
  */
 #define _POSIX_C_SOURCE 200809L
 
@@ -294,9 +294,23 @@ static double now(void)
     return (double)time.tv_sec * 1e9 + (double)time.tv_nsec;
 }
 
-/* The buffers are cleared before each run, outside the time taken. */
-static double time_of(run_function *run, const struct input *input)
+/* Where the stack lies beside the buffers, by steps of a cache line's quarter up
+ * to a page, decides some of a short run's time. It is another place in each
+ * process, so each repeat takes another: the smallest time is then that of a good
+ * one. */
+enum { STACK_STEP = 16, STACK_STEPS = 256, STACK_STRIDE = 41 };
+
+static size_t stack_room(unsigned repeat)
 {
+    return 1 + STACK_STEP * (size_t)(repeat * STACK_STRIDE % STACK_STEPS);
+}
+
+/* The buffers are cleared before each run, outside the time taken. */
+static double time_of(run_function *run, const struct input *input, unsigned repeat)
+{
+    volatile uint8_t room[stack_room(repeat)];
+    room[0] = 0;
+    (void)room[0];
     memset(answers, 0, sizeof answers);
     memset(end, 0, sizeof end);
     double started = now();
@@ -317,26 +331,29 @@ static double smaller(double a, double b)
 
 /* One log by both programs. They take turns at going first, for the second
  * finds the log in the cache. */
-static struct times time_both(const struct input *input, bool palette_first)
+static struct times time_both(const struct input *input, unsigned repeat)
 {
     struct times times;
-    if (palette_first) {
-        times.palette = time_of(palette_run, input);
-        times.plain = time_of(plain_run, input);
+    if (repeat % 2 == 0) {
+        times.palette = time_of(palette_run, input, repeat);
+        times.plain = time_of(plain_run, input, repeat);
     } else {
-        times.plain = time_of(plain_run, input);
-        times.palette = time_of(palette_run, input);
+        times.plain = time_of(plain_run, input, repeat);
+        times.palette = time_of(palette_run, input, repeat);
     }
     return times;
 }
 
-/* Nanoseconds for each event. */
+/* Nanoseconds for each event. A short log is repeated until it has as many events
+ * as a long one's repeats. */
 static struct times measure(unsigned repeats)
 {
     static double palette[LOGS], plain[LOGS];
+    if (inputs[0].events < MIX_EVENTS)
+        repeats *= MIX_EVENTS / (unsigned)inputs[0].events;
     for (unsigned repeat = 0; repeat < repeats; repeat++) {
         for (unsigned i = 0; i < LOGS; i++) {
-            struct times times = time_both(&inputs[i], repeat % 2 == 0);
+            struct times times = time_both(&inputs[i], repeat);
             palette[i] = repeat == 0 ? times.palette : smaller(palette[i], times.palette);
             plain[i] = repeat == 0 ? times.plain : smaller(plain[i], times.plain);
         }
@@ -412,7 +429,8 @@ int main(int argc, char **argv)
         fprintf(stderr, "usage: bench [REPEATS]\n");
         return 2;
     }
-    printf("%d logs of %d events in each mix, the smallest of %d repeats, both programs in turn.\n",
+    printf("%d logs of %d events in each mix, the smallest of %d repeats, both programs in turn;\n"
+           "of shorter logs more repeats.\n",
            LOGS, MIX_EVENTS, repeats);
     printf("Both buffers are cleared before each run, outside the time taken.\n");
     printf("Of 1,000 events, writes, reads, ticks, vertical periods and saves:\n");

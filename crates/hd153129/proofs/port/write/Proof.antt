@@ -4,7 +4,7 @@ use Rattle.hd153129.specs.Struct.{joined}
 use Rattle.hd153129.specs.Port.{next}
 use Rattle.colour.specs.Colour.{stored, wrote, pointed}
 use Rattle.event.specs.Answer.{answerOf, bytesOf}
-use Rattle.event.proofs.Laws.{refused-bytes, done-bytes}
+use Rattle.event.proofs.Laws.{refused-bytes, accepted-bytes}
 use denote.Ref.{now}
 use native.Mathlib.Omega.{arith}
 use mathlib.Core.Path.{refl, sym, _∙_, ap}
@@ -45,7 +45,7 @@ returns-2 c =
     let point = c .point in
     accessed (write-address _ _ (args .byte) (sym (access-refusal .ensures) ∙ if1 .left) (if2 .taken))
     (joined-by (now (args .colours)) (now (args .colours)) _ _ _ _ refl (point .ensures .0) (point .ensures .1) (point .ensures .2))
-    (put-answer .ensures ∙ ap (λ k. answerOf k 0) (if1 .left) ∙ done-bytes)
+    (accepted-bytes (put-answer .ensures) (if1 .left))
 
 next-requires : tie.Need-next-requires
 next-requires c κs = search needs
@@ -68,7 +68,7 @@ returns-3 c =
     let point2 = c .point2 in
     accessed (write-read-address _ _ (args .byte) (sym (access-refusal .ensures) ∙ if1 .left) (if2 .left) (if3 .taken))
     (joined-by (now (args .colours)) (now (args .colours)) _ _ _ _ refl (point2 .ensures .0 ∙ ap (pointed (joined (now (args .colours)) (args .c) .cursor)) (onward .ensures)) (point2 .ensures .1) (point2 .ensures .2))
-    (put-answer .ensures ∙ ap (λ k. answerOf k 0) (if1 .left) ∙ done-bytes)
+    (accepted-bytes (put-answer .ensures) (if1 .left))
 
 wide-requires : tie.Need-wide-requires
 wide-requires c κs = search needs
@@ -79,7 +79,7 @@ write-requires c κs =
     let if1 = c .before .before .before .before .before .before .if1 in
     let put-answer = c .before .before .before .before .before .before .before .before .before .put-answer in
     let wide = c .before .wide in
-    (pre .1, omega (arith, wide .ensures .1, pre .0), omega (arith, wide .ensures .1), put-answer .ensures ∙ ap (λ k. answerOf k 0) (if1 .left) ∙ done-bytes)
+    (pre .1, omega (arith, wide .ensures .1, pre .0), omega (arith, wide .ensures .1), accepted-bytes (put-answer .ensures) (if1 .left))
 
 with-cursor-requires : tie.Need-with-cursor-requires
 with-cursor-requires c κs = search needs
@@ -111,7 +111,7 @@ put-painted-requires : tie.Need-put-painted-requires
 put-painted-requires c κs =
     let if1 = c .before .before .before .before .if1 in
     let put-answer = c .before .before .before .before .before .before .before .put-answer in
-    (put-answer .ensures ∙ ap (λ k. answerOf k 0) (if1 .left) ∙ done-bytes, omega arith)
+    (accepted-bytes (put-answer .ensures) (if1 .left), omega arith)
 
 same-length-6 : tie.Need-same-length-6
 same-length-6 c = search needs

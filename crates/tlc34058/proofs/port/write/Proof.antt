@@ -1,7 +1,7 @@
 -- `write` meets its contract.
 use Rattle.colour.specs.Colour.{stored, wrote}
 use Rattle.event.specs.Answer.{answerOf, bytesOf}
-use Rattle.event.proofs.Laws.{refused-bytes, done-bytes}
+use Rattle.event.proofs.Laws.{refused-bytes, accepted-bytes}
 use Rattle.tlc34058.proofs.Selected.{write-refused, write-address, write-palette, write-overlay, write-register as write-control, overlay-low, joined-by, accessed}
 use Rattle.tlc34058.specs.Struct.{joined}
 use denote.Ref.{now}
@@ -51,7 +51,7 @@ returns-2 c =
     let point = c .before .point in
     let s = joined (now (args .colours)) (args .c) in
     let asked = write-address _ _ (args .byte) (sym (access-refusal .ensures) ∙ if1 .left) (if2 .taken) in
-    accessed asked (joined-by (now (args .colours)) (now (args .colours)) _ (args .c) _ _ refl (with-cursor .ensures .0 ∙ point .ensures) (with-cursor .ensures .1) (with-cursor .ensures .2)) (put-answer .ensures ∙ ap (λ k. answerOf k 0) (if1 .left) ∙ done-bytes)
+    accessed asked (joined-by (now (args .colours)) (now (args .colours)) _ (args .c) _ _ refl (with-cursor .ensures .0 ∙ point .ensures) (with-cursor .ensures .1) (with-cursor .ensures .2)) (accepted-bytes (put-answer .ensures) (if1 .left))
 
 wide-requires : tie.Need-wide-requires
 wide-requires c κs = search needs
@@ -62,7 +62,7 @@ write-requires c κs =
     let if1 = c .before .before .before .before .before .if1 in
     let put-answer = c .before .before .before .before .before .before .before .before .put-answer in
     let wide = c .before .wide in
-    (pre .1, omega (arith, wide .ensures .1, pre .0), omega (arith, wide .ensures .1), put-answer .ensures ∙ ap (λ k. answerOf k 0) (if1 .left) ∙ done-bytes)
+    (pre .1, omega (arith, wide .ensures .1, pre .0), omega (arith, wide .ensures .1), accepted-bytes (put-answer .ensures) (if1 .left))
 
 with-cursor-requires-2 : tie.Need-with-cursor-requires-2
 with-cursor-requires-2 c κs = search needs
@@ -105,7 +105,7 @@ write-requires-2 c κs =
     let put-answer = c .before .before .before .before .before .before .before .before .before .put-answer in
     let wide2 = c .before .wide2 in
     let low = overlay-low _ _ (sym (access-refusal .ensures) ∙ if1 .left) (if4 .taken) in
-    (pre .1, omega (arith, low, wide2 .ensures .0, pre .0), omega (arith, wide2 .ensures .1), put-answer .ensures ∙ ap (λ k. answerOf k 0) (if1 .left) ∙ done-bytes)
+    (pre .1, omega (arith, low, wide2 .ensures .0, pre .0), omega (arith, wide2 .ensures .1), accepted-bytes (put-answer .ensures) (if1 .left))
 
 with-cursor-requires-3 : tie.Need-with-cursor-requires-3
 with-cursor-requires-3 c κs = search needs
@@ -137,7 +137,7 @@ write-register-requires : tie.Need-write-register-requires
 write-register-requires c κs =
     let if1 = c .before .before .before .before .if1 in
     let put-answer = c .before .before .before .before .before .before .before .put-answer in
-    put-answer .ensures ∙ ap (λ k. answerOf k 0) (if1 .left) ∙ done-bytes
+    accepted-bytes (put-answer .ensures) (if1 .left)
 
 same-length-7 : tie.Need-same-length-7
 same-length-7 c = search needs

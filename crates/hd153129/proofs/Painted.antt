@@ -1,7 +1,7 @@
 -- A write's answer says whether it painted, and the number names what may look different.
 use Prim.Native.Nat.{ℕ, _+_, _*_, _<_}
 use mathlib.Core.Path.{_≡_, refl, sym, _∙_, ap}
-use mathlib.Core.Bool.{true, cond, false≢true}
+use mathlib.Core.Bool.{true, false, cond, false≢true}
 use mathlib.Core.List.{List, [], _∷_}
 use native.Mathlib.Omega.{arith}
 use borrow.Author.Tests.{eq-eqb}
@@ -12,7 +12,7 @@ use Rattle.event.specs.Kinds as kinds
 use Rattle.event.specs.Answer.{Answer, refused, done, showed, bytesOf}
 use Rattle.event.specs.Event.{Raw, bit, operandAt}
 use Rattle.event.specs.Painted.{byteIn, numberIn, codeIn}
-use Rattle.event.proofs.Painted.{says-written, numbered, told, untold, three-same, codes-same}
+use Rattle.event.proofs.Painted.{says-written, numbered, told, three-same, codes-same}
 use Rattle.colour.proofs.Laws.{stored-other}
 use Rattle.hd153129.specs.Facts as facts
 use Rattle.hd153129.specs.State.{State}
@@ -97,8 +97,8 @@ says-painted = record {
   says = λ s e k. says s (request s e) (asked s e k);
   none = λ s e t k z.
       let x = request s e in
-      seen-same (next s x) s t (unaltered s x (untold (altersDisplay s x) (says s x (asked s e k)) z));
+      seen-same (next s x) s t (unaltered s x (told (altersDisplay s x) false (says s x (asked s e k)) z));
   others = λ s e t i k w h few other l.
       let x = request s e in
-      others s t i k x (asked s e w) (told (altersDisplay s x) (says s x (asked s e w)) h) few other l;
+      others s t i k x (asked s e w) (told (altersDisplay s x) true (says s x (asked s e w)) h) few other l;
 }

@@ -20,7 +20,7 @@ abbrev pub paints : ℕ → ℕ → ℕ → ℕ → Bool
 paints kind selector direction position =
     eqb kind write && ((eqb selector 1 && (not (eqb direction 1) && eqb position 2)) || eqb selector 2)
 
--- an access at an address, in a direction, at a position
+-- a state at an address, in a direction, at a position
 abbrev pub at : ℕ → ℕ → ℕ → State
 at address direction position = record {
   colours = replicate facts.colours 0;
@@ -29,6 +29,7 @@ at address direction position = record {
   mask = 0;
 }
 
+-- an access there, at address 5
 abbrev pub row : ℕ → ℕ → ℕ → ℕ → Bool → AccessRow State
 row kind selector direction position alters = record { state = at 5 direction position; access = accessBy kind selector; alters = alters }
 
@@ -63,6 +64,7 @@ rows = tt
 
 -- ---- document 02's Note 5: what a write's answer says that it painted
 
+-- a write there
 abbrev pub numbered : ℕ → ℕ → ℕ → ℕ → ℕ → NumberRow State
 numbered selector address direction position number = record { state = at address direction position; access = accessBy write selector; number = number }
 

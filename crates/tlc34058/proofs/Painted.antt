@@ -1,7 +1,7 @@
 -- A write's answer says whether it painted, and the number names what may look different.
 use Prim.Native.Nat.{ℕ, zero, suc, _+_, _*_, _≤_, _<_}
 use mathlib.Core.Path.{_≡_, refl, sym, _∙_, ap}
-use mathlib.Core.Bool.{true, cond, false≢true}
+use mathlib.Core.Bool.{true, false, cond, false≢true}
 use mathlib.Core.List.{List}
 use native.Mathlib.Omega.{arith}
 use borrow.Author.Tests.{eq-eqb, eqb-true, eqb-false}
@@ -12,7 +12,7 @@ use Rattle.event.specs.Kinds as kinds
 use Rattle.event.specs.Answer.{Answer, refused, done, painted, showed, bytesOf}
 use Rattle.event.specs.Event.{Raw, operandAt}
 use Rattle.event.specs.Painted.{byteIn, numberIn, codeIn}
-use Rattle.event.proofs.Painted.{says-written, numbered, told, untold, three-same, append-same, codes-same}
+use Rattle.event.proofs.Painted.{says-written, numbered, told, three-same, append-same, codes-same}
 use Rattle.colour.specs.Colour.{Cursor}
 use Rattle.colour.proofs.Laws.{stored-other}
 use Rattle.tlc34058.specs.Facts as facts
@@ -117,8 +117,8 @@ says-painted = record {
   says = λ s e k. says (s .port) (request (s .port) e) (asked (s .port) e k);
   none = λ s e t k z.
       let x = request (s .port) e in
-      seen-same (next (s .port) x) (s .port) (s .display) t (unaltered (s .port) x (untold (altersDisplay (s .port) x) (says (s .port) x (asked (s .port) e k)) z));
+      seen-same (next (s .port) x) (s .port) (s .display) t (unaltered (s .port) x (told (altersDisplay (s .port) x) false (says (s .port) x (asked (s .port) e k)) z));
   others = λ s e t i k w h few other l.
       let x = request (s .port) e in
-      others (s .port) (s .display) t i k x (asked (s .port) e w) (told (altersDisplay (s .port) x) (says (s .port) x (asked (s .port) e w)) h) few other l;
+      others (s .port) (s .display) t i k x (asked (s .port) e w) (told (altersDisplay (s .port) x) true (says (s .port) x (asked (s .port) e w)) h) few other l;
 }

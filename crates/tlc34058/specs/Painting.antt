@@ -23,7 +23,7 @@ paints kind selector address position =
     || ((eqb selector 3 && (not (ltb 3 address) && eqb position 2))
     || (eqb selector 2 && (eqb address 4 || (eqb address 5 || eqb address 6)))))
 
--- an access at an address and a position
+-- a port at an address and a position
 abbrev pub at : ℕ → ℕ → Port
 at address position = record {
   colours = replicate facts.colours 0;
@@ -31,6 +31,7 @@ at address position = record {
   registers = record { readMask = 0; blinkMask = 0; command = 0; test = 0 };
 }
 
+-- an access there
 abbrev pub row : ℕ → ℕ → ℕ → ℕ → Bool → AccessRow Port
 row kind selector address position alters = record { state = at address position; access = accessBy kind selector; alters = alters }
 
@@ -73,6 +74,7 @@ rows = tt
 
 -- ---- document 02's Note 5: what a write's answer says that it painted
 
+-- a write there
 abbrev pub numbered : ℕ → ℕ → ℕ → ℕ → NumberRow Port
 numbered selector address position number = record { state = at address position; access = accessBy write selector; number = number }
 

@@ -1,6 +1,6 @@
 -- `Cursor::write` meets its contract.
 use lib.Dec.{eqb}
-use Rattle.event.proofs.Laws.{painted-bytes, unpainted-bytes}
+use Rattle.event.proofs.Laws.{written-bytes}
 use Rattle.colour.specs.Colour.{held, stored}
 use lib.ListN.{length-set}
 use borrow.Author.Tests.{eq-eqb, ne-eqb}
@@ -24,7 +24,7 @@ returns c =
     let zero : at ≡ 0 = if1 .taken in
     let one : eqb at 1 ≡ false = ne-eqb at 1 (λ e. omega arith) in
     let two : eqb at 2 ≡ false = ne-eqb at 2 (λ e. omega arith) in
-    (c .next .ensures ∙ simp (eq-eqb _ _ zero, one), simp two, pre .3 ∙ unpainted-bytes _ two)
+    (c .next .ensures ∙ simp (eq-eqb _ _ zero, one), simp two, pre .3 ∙ written-bytes _ two)
 
 next-requires-2 : tie.Need-next-requires-2
 next-requires-2 c κs = search needs
@@ -39,7 +39,7 @@ returns-2 c =
     let at = args .self .position .0 in
     let one : at ≡ 1 = if2 .taken in
     let two : eqb at 2 ≡ false = ne-eqb at 2 (λ e. omega arith) in
-    (c .next2 .ensures ∙ simp (ne-eqb _ _ (if1 .left), eq-eqb _ _ one), simp two, pre .3 ∙ unpainted-bytes _ two)
+    (c .next2 .ensures ∙ simp (ne-eqb _ _ (if1 .left), eq-eqb _ _ one), simp two, pre .3 ∙ written-bytes _ two)
 
 mul-first : tie.Need-mul-first
 mul-first c = search needs
@@ -85,7 +85,7 @@ returns-3 c =
     let not0 = if1 .left in
     let not1 = if2 .left in
     let two : at ≡ 2 = omega (arith, pre .0, not0, not1) in
-    (c .next3 .ensures ∙ simp (ne-eqb _ _ not0, ne-eqb _ _ not1), simp (eq-eqb _ _ two), put-painted .ensures ∙ painted-bytes _ (eq-eqb _ _ two))
+    (c .next3 .ensures ∙ simp (ne-eqb _ _ not0, ne-eqb _ _ not1), simp (eq-eqb _ _ two), put-painted .ensures ∙ written-bytes _ (eq-eqb _ _ two))
 
 pub write-spec : {M : Type 1} → statement M
 write-spec =

@@ -5,7 +5,7 @@ use mathlib.Core.Path.{sym, _∙_, ap}
 use borrow.Author.Tests.{lt-ltb, le-ltb}
 use lib.ListN.{length}
 use Rattle.event.specs.Answer.{done, painted, bytesOf}
-use Rattle.event.proofs.Laws.{bytes-long, painted-bytes, unpainted-bytes}
+use Rattle.event.proofs.Laws.{bytes-long, written-bytes}
 use borrow.Author.Needs.{needs}
 use Rattle.tlc34058.proofs.port.write_register.Statement.{statement}
 use Rattle.tlc34058.proofs.port.write_register.Tie as tie
@@ -35,8 +35,8 @@ returns : tie.Need-returns
 returns c =
     let pre = c .before .before .before .pre in
     let told = ⊎-elim
-    (λ w. w .6 ∙ w .3 .ensures ∙ ap (λ n. bytesOf (painted (256 + n))) (w .2 .ensures .0) ∙ painted-bytes _ (lt-ltb _ _ (w .0 .taken)))
-    (λ w. w .1 ∙ pre ∙ unpainted-bytes _ (le-ltb _ _ (w .0 .left)))
+    (λ w. w .6 ∙ w .3 .ensures ∙ ap (λ n. bytesOf (painted (256 + n))) (w .2 .ensures .0) ∙ written-bytes _ (lt-ltb _ _ (w .0 .taken)))
+    (λ w. w .1 ∙ pre ∙ written-bytes _ (le-ltb _ _ (w .0 .left)))
     (c .before .if1 .came) in
     (c .set-register .ensures .0, c .set-register .ensures .1, c .set-register .ensures .2, told)
 

@@ -6,7 +6,7 @@ use crate::painting::Painted;
 use crate::refusal::Refusal;
 
 /// Entries of the CLT.
-const ENTRIES: usize = 256;
+pub(crate) const ENTRIES: usize = 256;
 /// Places of chip 2.
 pub(crate) const PLACES: usize = 774;
 
@@ -18,7 +18,7 @@ const PLACE_HELD_GREEN: usize = 772;
 const PLACE_PIXEL_MASK: usize = 773;
 
 /// Colours come through D5 to D0.
-const COLOUR_BITS: u8 = 0x3F;
+pub(crate) const COLOUR_BITS: u8 = 0x3F;
 /// The third of R, G, B.
 const BLUE: u8 = 2;
 /// Direction after an address write with RS1, RS0 = 0, 0.

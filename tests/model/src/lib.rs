@@ -1,10 +1,11 @@
 //! A second model of three video palette chips: the TLC34058 (chip 1), the
 //! HD153129 (chip 2) and the TMS34070 (chip 3), with their snapshots, their
-//! logs, the run of a log, the output currents of a chip 1 tick, the painting
-//! accesses and the printing program's output.
+//! logs, the run of a log, the output currents of a chip 1 tick, the fewest
+//! writes to a wanted table of chip 2, the painting accesses and the printing
+//! program's output.
 //!
-//! It rests on document 01 (the scope paper, `01-scope.md`), on Notes 1 to 3 and
-//! 5 of document 02 (`02-change-requests.md`) and on the data sheets of the
+//! It rests on document 01 (the scope paper, `01-scope.md`), on Notes 1 to 3, 5
+//! and 6 of document 02 (`02-change-requests.md`) and on the data sheets of the
 //! TLC34058 (source document 000), the HD153129 (source document 001) and the
 //! TMS34070 (source document 003) alone, independently of the code that it is
 //! compared with. Where a paper leaves two readings, the one taken is listed in
@@ -23,6 +24,9 @@
 //! - [`run`]: a whole log on byte strings
 //! - [`tick_currents`], [`tick_currents_into`]: a chip 1 tick with its output
 //!   currents, on a state and on byte strings
+//! - [`plan`], [`plan_into`]: a shortest list of writes to a wanted table, on a
+//!   state and on byte strings; [`fewest_accesses`], [`plan_fault`]: how many
+//!   accesses a shortest list has, and what is wrong with a list
 //! - [`painting_accesses`]: which events of a log paint
 //! - [`printed`]: what the printing program prints for any input
 
@@ -37,6 +41,7 @@ mod currents;
 mod event;
 mod log;
 mod painting;
+mod plan;
 mod printing;
 mod refusal;
 mod run;
@@ -51,6 +56,8 @@ pub use currents::{tick_currents, tick_currents_into, Currents, CURRENTS, CURREN
 pub use event::{event, kind, Answer, Operand, ANSWER_BYTES};
 pub use log::{read_log, Event, Log, MOST_EVENTS};
 pub use painting::painting_accesses;
+pub use plan::{fewest_accesses, plan, plan_fault, plan_into, Write};
+pub use plan::{MOST_ACCESSES, WANTED_BYTES, WRITES_BYTES};
 pub use printing::printed;
 pub use refusal::Refusal;
 pub use run::run;

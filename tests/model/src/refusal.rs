@@ -1,6 +1,6 @@
 //! The refusal table of document 01, refusal 12 with the limit of document 02's
-//! Note 2, refusals 4, 5 and 14 with what Note 3 adds to them, and the refusal
-//! that Note 1 adds for the currents.
+//! Note 2, refusals 4, 5 and 14 with what Note 3 adds to them, and the refusals
+//! that Note 1 adds for the currents and Note 6 for the fewest writes.
 
 /// A refusal, with the number that its document gives it, or the C header for
 /// the currents' call on byte strings.
@@ -52,6 +52,12 @@ pub enum Refusal {
     EndBuffer = 31,
     /// Currents asked for a chip other than 1.
     CurrentsChip = 40,
+    /// Fewest writes asked for a chip other than 2.
+    PlanChip = 41,
+    /// Wanted bytes not 768, or one over 63.
+    Wanted = 42,
+    /// Result buffer under 1,538 bytes, however short the list.
+    WritesBuffer = 43,
 }
 
 impl Refusal {

@@ -10,6 +10,8 @@ mod hd153129_tables;
 mod marked_lines;
 mod painting;
 mod painting_laws;
+mod plan;
+mod plan_minimality;
 mod printing;
 mod round_trips;
 mod run_refusals;

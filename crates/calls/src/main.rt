@@ -1,6 +1,6 @@
 // Plays calls on a state, each by itself, from records on standard input, and prints all that comes back: numbers, answers, places, and every byte of a lent buffer.
-// A record starts with its call: 0 event, 1 save, 2 restore, 3 currents. Any other byte there, a room or a length over 4,096, and the input's end end the program; a record that is cut off is played with zeros for what is missing.
-// A state is its chip byte and all places of each chip in the order of their numbers, whatever their values. An event has a state, a kind and 8 operand bytes; a save a state, the room that is lent (2 bytes, low first) and the byte that fills the buffer; a restore the snapshot's length (2 bytes) and its bytes; currents a state and a tick's 8 operand bytes.
+// A record starts with its call: 0 event, 1 save, 2 restore, 3 currents, 4 plan. Any other byte there, a room or a length over 4,096, and the input's end end the program; a record that is cut off is played with zeros for what is missing.
+// A state is its chip byte and all places of each chip in the order of their numbers, whatever their values. An event has a state, a kind and 8 operand bytes; a save a state, the room that is lent (2 bytes, low first) and the byte that fills the buffer; a restore the snapshot's length (2 bytes) and its bytes; currents a state and a tick's 8 operand bytes; a plan a state, the wanted bytes' number (2 bytes) and the bytes, and room and filling as a save.
 ghost use mathlib.Core.Path.{_≡_};
 ghost use Prim.Native.Nat.{_≤_};
 ghost use lib.ListN.{length};
@@ -12,7 +12,7 @@ use chip::Chip;
 use libc::STDIN_FILENO;
 use libc::STDOUT_FILENO;
 
-// The most bytes of a snapshot to restore, and of a buffer to save into.
+// The most bytes of a snapshot to restore, of wanted bytes, and of a buffer to save or to plan into.
 const ROOM: usize = 4096;
 
 // The most records that one run plays.
@@ -101,15 +101,20 @@ fn play_event() {
     print_chip(outcome.chip);
 }
 
+// A refusal and a number.
+fn print_numbers(refusal: u8, number: usize) {
+    io::print_decimal(STDOUT_FILENO, refusal as u64);
+    io::write_all(STDOUT_FILENO, b" ");
+    io::print_decimal(STDOUT_FILENO, number as u64);
+    end_line();
+}
+
 // Saves into the first room bytes of a buffer. The refusal, and the length.
 fn save_into(chip: Chip, buffer: &mut [u8], room: usize)
     requires { ⌜ room ≤ length (now buffer) ⌝ }
 {
     let saved = chip::save(chip, &mut buffer[0..room]);
-    io::print_decimal(STDOUT_FILENO, saved.refusal as u64);
-    io::write_all(STDOUT_FILENO, b" ");
-    io::print_decimal(STDOUT_FILENO, saved.length as u64);
-    end_line();
+    print_numbers(saved.refusal, saved.length);
 }
 
 // The refusal and the length, and the whole buffer, of which only the room was lent.
@@ -165,6 +170,39 @@ fn play_currents() {
     print_chip(ticked.chip);
 }
 
+// Plans into the first room bytes of a buffer. The refusal, and the number of accesses.
+fn plan_into(chip: Chip, wanted: &[u8], buffer: &mut [u8], room: usize)
+    requires { ⌜ room ≤ length (now buffer) ⌝ }
+{
+    let planned = planner::of_state(chip, wanted, &mut buffer[0..room]);
+    print_numbers(planned.refusal, planned.accesses);
+}
+
+// The refusal and the number of accesses, and the whole buffer, of which only the room was lent.
+fn play_plan() -> bool {
+    let chip = read_chip();
+    let mut size = [0u8; 2];
+    io::read_full(STDIN_FILENO, &mut size);
+    let length = bytes::word(&size, 0);
+    if ROOM < length {
+        return false;
+    }
+    let mut wanted = [0u8; ROOM];
+    read_part(&mut wanted, length);
+    let mut call = [0u8; 3];
+    io::read_full(STDIN_FILENO, &mut call);
+    let room = bytes::word(&call, 0);
+    if ROOM < room {
+        return false;
+    }
+    let filling = call[2];
+    let mut buffer = [filling; ROOM];
+    plan_into(chip, &wanted[0..length], &mut buffer, room);
+    print_digits(&buffer);
+    end_line();
+    true
+}
+
 // Plays one record; false where there is none.
 fn play_next() -> bool {
     let mut call = [0u8; 1];
@@ -185,6 +223,9 @@ fn play_next() -> bool {
     if call[0] == 3 {
         play_currents();
         return true;
+    }
+    if call[0] == 4 {
+        return play_plan();
     }
     false
 }

@@ -11,21 +11,17 @@ use Rattle.bytes.specs.Buffer.{over}
 use Rattle.snapshot.specs.Snapshot.{twoBytes}
 use Rattle.event.specs.Answer.{bytesOf}
 use Rattle.event.specs.Event.{Outcome, playedUnless, tagged}
-use Rattle.chip.specs.Chip.{State, Whole, named, put, freshWhole, firstNumber, numberOf, snapshotRefusal, restore, restoredWhole, saved, saveRefusal, endRoom, callRefusal, played}
+use Rattle.chip.specs.Chip.{State, Whole, named, put, numberOf, snapshotRefusal, restore, restoredWhole, saved, saveRefusal, endRoom, callRefusal, played}
 use Rattle.chip.proofs.Named.{named-number}
 use Rattle.chip.proofs.Shuffled.{Sound, sound-restore, sound-step}
-use Rattle.chip.proofs.Fits.{named-put, sound-saves}
+use Rattle.chip.proofs.Fits.{named-put, restored-state, sound-saves}
 use Rattle.currents.specs.Currents.{currentsOf, unlessTlc34058, otherChip, tickOf, ticked}
 use Rattle.currents.specs.Call.{outLong, inOrder, currentsRefusal, outBytes, endBytes, leaves, given}
 
 -- ---- the state that a snapshot gives
 
-module _ (from : List ℕ) (w : Whole) (e : w ≡ restoredWhole from) where
-  pub restored-state : named w ≡ restore from
-  restored-state = ap named e ∙ named-put (freshWhole firstNumber) (restore from) (sound-restore from)
-
-  pub restored-chip : unlessTlc34058 (w .number) ≡ otherChip (restore from)
-  restored-chip = ap unlessTlc34058 (sym (named-number w) ∙ ap numberOf restored-state)
+restored-chip : (from : List ℕ) (w : Whole) → w ≡ restoredWhole from → unlessTlc34058 (w .number) ≡ otherChip (restore from)
+restored-chip from w e = ap unlessTlc34058 (sym (named-number w) ∙ ap numberOf (restored-state from w e))
 
 -- a tick leaves a sound state sound
 played-sound : (s : State) (o : List ℕ) → Sound s → Sound (played s (tickOf o) .state)

@@ -1,23 +1,22 @@
 -- The call's refusals, by what the code finds, and what holds where there is none.
-use Prim.Native.Nat.{ℕ, zero, suc, _*_, _≤_, _<_}
-use mathlib.Core.Path.{_≡_, _∙_, refl, sym, ap, subst}
-use mathlib.Core.Bool.{Bool, true, false, cond}
+use Prim.Native.Nat.{ℕ, zero, suc, _≤_, _<_}
+use mathlib.Core.Path.{_≡_, _∙_, refl, sym, ap}
+use mathlib.Core.Bool.{true, false}
 use mathlib.Core.List.{List}
 use native.Mathlib.Omega.{arith}
 use lib.Dec.{eqb, ltb}
 use lib.ListN.{length, getD, replicate, length-replicate}
-use borrow.Author.Tests.{eqb-true, eqb-false, eq-eqb, ne-eqb, ltb-false}
-use Rattle.laws.specs.Refusals.{orElse}
+use borrow.Author.Tests.{eqb-true, eqb-false, ltb-false}
 use Rattle.laws.proofs.Tests.{needed, passed, or-none, decide}
 use Rattle.snapshot.specs.Snapshot.{within, valueRefusal as valueRefusalBy}
 use Rattle.snapshot.proofs.Valid.{valid, fitting}
 use Rattle.hd153129.specs.Facts as facts
 use Rattle.hd153129.proofs.Sound.{Sound}
 use Rattle.hd153129.proofs.Saved.{sound}
-use Rattle.chip.specs.Chip.{State, hd153129, Whole, named, valueRefusal}
+use Rattle.chip.specs.Chip.{hd153129, Whole, named, valueRefusal}
 use Rattle.chip.proofs.Named.{named-hd153129, named-number}
 use Rattle.planner.specs.Plan.{writesLong}
-use Rattle.planner.specs.Call.{unlessHd153129, otherChip, wantedRefusal, bufferRefusal, planRefusal}
+use Rattle.planner.specs.Call.{unlessHd153129, otherChip, wantedRefusal, planRefusal}
 
 -- ---- 42
 

@@ -1,8 +1,8 @@
 -- No list of accesses that starts with an address write and leaves the wanted table is shorter than three accesses for each entry that differs and one for each run.
 -- What the table still asks for falls by at most one with each access: three for each entry that differs, and one for each run that doesn't start at the address register; the red and green of a triple under way are paid for in advance.
-use Prim.Native.Nat.{ℕ, _+_, _*_, _≤_, _<_, _%_}
+use Prim.Native.Nat.{ℕ, _+_, _*_, _≤_, _<_}
 use mathlib.Core.Path.{_≡_, _∙_, refl, sym, ap}
-use mathlib.Core.Bool.{Bool, true, false, not, cond, _&&_, _||_, false≢true, true≢false}
+use mathlib.Core.Bool.{Bool, true, false, not, cond, _&&_, false≢true, true≢false}
 use mathlib.Core.List.{List, [], _∷_}
 use native.Mathlib.Omega.{arith}
 use native.Mathlib.Nat.{add-zero}
@@ -18,7 +18,7 @@ use Rattle.event.specs.Event.{Raw, operandAt}
 use Rattle.hd153129.specs.State.{State}
 use Rattle.hd153129.specs.Port.{Access, refuse, setAddress, setColour, setMask, getAddress, getColour, getMask, nothing, accessRefusal, requestWrite, requestRead, request, next}
 use Rattle.hd153129.specs.Machine.{chip}
-use Rattle.planner.specs.Plan.{sameAt, differs, count, startsRun, runs, accessCount}
+use Rattle.planner.specs.Plan.{differs, count, startsRun, runs, accessCount}
 use Rattle.planner.specs.Claims.{after, isAddressWrite, startsWithAddress}
 use Rattle.planner.proofs.Counts.{count-le, count-but, count-none}
 

@@ -1,5 +1,5 @@
 -- What the code finds of an entry, where it starts, and how the list grows in the buffer.
-use Prim.Native.Nat.{ℕ, zero, suc, _+_, _*_, _-_, _≤_, _<_}
+use Prim.Native.Nat.{ℕ, suc, _+_, _*_, _-_, _≤_, _<_}
 use mathlib.Core.Path.{_≡_, _∙_, refl, sym, ap}
 use mathlib.Core.Bool.{Bool, true, false, cond}
 use mathlib.Core.List.{List, [], _∷_, _++_}
@@ -12,7 +12,7 @@ use borrow.Author.Tests.{eq-eqb, ne-eqb}
 use Rattle.counters.specs.Counters.{nextAddress}
 use Rattle.bytes.specs.Buffer.{over}
 use Rattle.hd153129.specs.Facts as facts
-use Rattle.planner.specs.Plan.{differs, mostAccesses, Write, entryWrites, walk, firstSame, last, start, plan, bytesOf, putBehind, writesLong}
+use Rattle.planner.specs.Plan.{differs, Write, entryWrites, walk, firstSame, last, start, plan, bytesOf, putBehind, writesLong}
 use Rattle.planner.proofs.Length.{plan-few}
 
 -- ---- an entry's three tests, at the index that the code has worked out

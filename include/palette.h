@@ -1,9 +1,10 @@
 /*
  * palette.h: runs a log of events on a model of a video palette chip,
- * the TLC34058 (chip 1), the HD153129 (chip 2) or the TMS34070 (chip 3), and
- * gives the output currents of a TLC34058.
+ * the TLC34058 (chip 1), the HD153129 (chip 2) or the TMS34070 (chip 3), gives
+ * the output currents of a TLC34058, and lists the fewest writes that fill an
+ * HD153129's table with wanted colours.
  *
- * Snapshots, logs and answers are byte strings; docs/FORMATS.md describes
+ * Snapshots, logs, answers and plans are byte strings; docs/FORMATS.md describes
  * them. Link with libpalette.a. C99 or later, or C++.
  */
 #ifndef PALETTE_H
@@ -18,7 +19,7 @@ extern "C" {
 
 /* The version: three numbers for #if, and the text "major.minor.patch". */
 #define PALETTE_VERSION_MAJOR 0
-#define PALETTE_VERSION_MINOR 5
+#define PALETTE_VERSION_MINOR 6
 #define PALETTE_VERSION_PATCH 0
 #define PALETTE_VERSION                                                        \
     PALETTE_VERSION_TEXT(PALETTE_VERSION_MAJOR, PALETTE_VERSION_MINOR,         \
@@ -166,14 +167,34 @@ enum palette_output {
                               (byte)])
 
 /*
+ * Plans.
+ */
+
+/* The entries of an HD153129's table. */
+#define PALETTE_HD153129_ENTRIES 256
+/* A wanted table: red, green and blue of each entry, entry 0 first, as in the
+ * places of a snapshot. */
+#define PALETTE_WANTED_BYTES (3 * PALETTE_HD153129_ENTRIES)
+/* A write of a plan: its selector, then its byte. */
+#define PALETTE_WRITE_BYTES 2
+/* The most writes that a plan has, and how long it is then: all entries in one
+ * run, each with its three colours, behind one address. `writes` must have room
+ * for so many, 1,538 bytes, however short the plan is. */
+#define PALETTE_MOST_WRITES (1 + 3 * PALETTE_HD153129_ENTRIES)
+#define PALETTE_PLAN_BYTES (PALETTE_WRITE_BYTES * PALETTE_MOST_WRITES)
+
+/*
  * Results.
  */
 
 /* The two halves of what each call returns: the refusal (0 if the call was
- * accepted) and the length of the end snapshot (0 if it was refused). A
- * snapshot has at most PALETTE_END_BYTES bytes, so the halves never mix. */
+ * accepted) and a number (0 if it was refused), of palette_run and
+ * palette_currents the length of the end snapshot, of palette_plan the count of
+ * writes. A snapshot has at most PALETTE_END_BYTES bytes, a plan at most
+ * PALETTE_MOST_WRITES writes, so the halves never mix. */
 #define PALETTE_REFUSAL(result) ((unsigned)((uint64_t)(result) >> 16))
 #define PALETTE_LENGTH(result) ((size_t)((uint64_t)(result) & 0xFFFFu))
+#define PALETTE_COUNT(result) ((size_t)((uint64_t)(result) & 0xFFFFu))
 
 /*
  * The refusals. A library of another version may have others besides, so a
@@ -191,6 +212,10 @@ enum palette_output {
  * Of currents: palette_currents returns the refusal, and no byte of either
  * buffer was changed. It looks at the snapshot (20 to 25, as a run does), then
  * for 40, 13, 30, 31.
+ *
+ * Of a plan: palette_plan returns the refusal, and no byte of `writes` was
+ * changed. It looks at the snapshot (20 to 25, as a run does), then for 41, 42,
+ * 43.
  */
 enum palette_refusal {
     /* Not refused. */
@@ -227,7 +252,7 @@ enum palette_refusal {
     /* Of a run: an operand byte that its event doesn't use isn't 0. */
     PALETTE_REFUSED_LOG_UNUSED = 15,
 
-    /* 20 to 25: of a run and of currents. */
+    /* 20 to 25: of a run, of currents and of a plan. */
     /* The snapshot has under PALETTE_SNAPSHOT_HEADER_BYTES bytes. */
     PALETTE_REFUSED_SNAPSHOT_SHORT = 20,
     /* The snapshot's chip byte isn't one of enum palette_chip. */
@@ -254,7 +279,15 @@ enum palette_refusal {
     PALETTE_REFUSED_END_BUFFER = 31,
 
     /* Of currents: the snapshot is of another chip than a TLC34058. */
-    PALETTE_REFUSED_CURRENTS_CHIP = 40
+    PALETTE_REFUSED_CURRENTS_CHIP = 40,
+
+    /* Of a plan: the snapshot is of another chip than an HD153129. */
+    PALETTE_REFUSED_PLAN_CHIP = 41,
+    /* Of a plan: the wanted table hasn't PALETTE_WANTED_BYTES bytes, or one of
+     * them is over 63. */
+    PALETTE_REFUSED_WANTED = 42,
+    /* Of a plan: `writes` has under PALETTE_PLAN_BYTES bytes. */
+    PALETTE_REFUSED_PLAN_BUFFER = 43
 };
 
 /*
@@ -300,6 +333,36 @@ uint64_t palette_currents(const uint8_t *snapshot, size_t snapshot_len,
                           const uint8_t *operand, size_t operand_len,
                           uint8_t *out, size_t out_len,
                           uint8_t *end, size_t end_len);
+
+/*
+ * The fewest writes to an HD153129 that leave exactly the wanted colours.
+ *
+ * `wanted` has PALETTE_WANTED_BYTES bytes: red, green and blue of entry 0, then
+ * of entry 1, up to 255, each at most 63. The writes fill the start of `writes`,
+ * PALETTE_WRITE_BYTES for each in the order in which they are made: its
+ * selector, 0 for an address and 1 for a colour, and its byte. `writes` must have
+ * PALETTE_PLAN_BYTES bytes, whatever it will hold. Bytes past the list don't
+ * change, and a refused call changes no byte.
+ *
+ * If no colour differs, the list is empty. Otherwise it starts with an address,
+ * so it may be sent whatever the port was in the middle of. Entries that differ
+ * and follow each other, 0 being behind 255, are one run: an address, then red,
+ * green and blue of each, as they are in `wanted`. No list of accesses that
+ * starts with an address write (selector 0 or 3) and leaves that table is
+ * shorter. In which order the runs come, and with which entry a run of all 256
+ * starts, isn't promised.
+ *
+ * Returns 65,536 * refusal + count of writes, the count being 0 if the call is
+ * refused; PALETTE_REFUSAL and PALETTE_COUNT take it apart. The count is 3 * the
+ * entries that differ + their runs, at most PALETTE_MOST_WRITES.
+ *
+ * Of its byte strings it asks what palette_run does: no two of the three may
+ * overlap; `snapshot` and `wanted` are only read. A library before version 0.6.0
+ * hasn't got this call.
+ */
+uint64_t palette_plan(const uint8_t *snapshot, size_t snapshot_len,
+                      const uint8_t *wanted, size_t wanted_len,
+                      uint8_t *writes, size_t writes_len);
 
 #ifdef __cplusplus
 }

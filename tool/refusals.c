@@ -54,6 +54,12 @@ const char *refusal_in_words(unsigned refusal)
         return "the end buffer is too small";
     case PALETTE_REFUSED_CURRENTS_CHIP:
         return "only a TLC34058 has output currents";
+    case PALETTE_REFUSED_PLAN_CHIP:
+        return "only writes to an HD153129 are planned";
+    case PALETTE_REFUSED_WANTED:
+        return "the wanted table has another length than the chip's or a value that is too large";
+    case PALETTE_REFUSED_PLAN_BUFFER:
+        return "the buffer for the writes is too small";
     }
     return "unknown refusal";
 }

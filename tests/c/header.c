@@ -29,6 +29,8 @@ FACT(painted, PALETTE_PAINTED_OVERLAY == 256 && PALETTE_PAINTED_READ_MASK == 260
                   PALETTE_PAINTED_PIXEL_MASK == 260);
 FACT(outputs, PALETTE_OUTPUT_GREEN == 0 && PALETTE_OUTPUT_RED == 1 && PALETTE_OUTPUT_BLUE == 2);
 FACT(currents, PALETTE_TICK_PIXELS == 5 && PALETTE_CURRENTS_BYTES == 48);
+FACT(wanted, PALETTE_HD153129_ENTRIES == 256 && PALETTE_WANTED_BYTES == 768);
+FACT(plan, PALETTE_WRITE_BYTES == 2 && PALETTE_MOST_WRITES == 769 && PALETTE_PLAN_BYTES == 1538);
 
 FACT(accepted, PALETTE_ACCEPTED == 0);
 FACT(in_answers, PALETTE_REFUSED_SELECTOR == 1 && PALETTE_REFUSED_ADDRESS == 2 &&
@@ -44,8 +46,11 @@ FACT(of_snapshots, PALETTE_REFUSED_SNAPSHOT_SHORT == 20 && PALETTE_REFUSED_SNAPS
                        PALETTE_REFUSED_SNAPSHOT_VALUE == 25 && PALETTE_REFUSED_TWO_CHIPS == 26);
 FACT(of_buffers, PALETTE_REFUSED_ANSWER_BUFFER == 30 && PALETTE_REFUSED_END_BUFFER == 31);
 FACT(of_currents, PALETTE_REFUSED_CURRENTS_CHIP == 40);
+FACT(of_plans, PALETTE_REFUSED_PLAN_CHIP == 41 && PALETTE_REFUSED_WANTED == 42 &&
+                   PALETTE_REFUSED_PLAN_BUFFER == 43);
 FACT(refusal, PALETTE_REFUSAL(UINT64_C(31) * 65536) == 31 && PALETTE_REFUSAL(2370) == 0);
 FACT(length, PALETTE_LENGTH(2370) == 2370 && PALETTE_LENGTH(UINT64_C(31) * 65536) == 0);
+FACT(count, PALETTE_COUNT(769) == 769 && PALETTE_COUNT(UINT64_C(43) * 65536) == 0);
 
 /* A count as a log holds it, in 32 bits, is multiplied in the width of a size. */
 FACT(any_count, sizeof(size_t) < 8 || PALETTE_LOG_BYTES(UINT32_MAX) / 9 == UINT32_MAX);
@@ -54,7 +59,8 @@ FACT(any_count, sizeof(size_t) < 8 || PALETTE_LOG_BYTES(UINT32_MAX) / 9 == UINT3
  * put beside. */
 #if PALETTE_VERSION_MAJOR < 0 || PALETTE_VERSION_MINOR < 0 || PALETTE_VERSION_PATCH < 0 || \
     PALETTE_END_BYTES != 2370 || PALETTE_MOST_LOG_BYTES != 63005 || \
-    PALETTE_MOST_ANSWER_BYTES != 126000 || PALETTE_CURRENTS_BYTES != 48
+    PALETTE_MOST_ANSWER_BYTES != 126000 || PALETTE_CURRENTS_BYTES != 48 || \
+    PALETTE_WANTED_BYTES != 768 || PALETTE_MOST_WRITES != 769 || PALETTE_PLAN_BYTES != 1538
 #error "a number of the header"
 #endif
 FACT(version, sizeof "palette " PALETTE_VERSION >= sizeof "palette 0.0.0");
@@ -88,4 +94,16 @@ unsigned blue_of_pixel_e(void)
     return PALETTE_REFUSAL(result) == PALETTE_ACCEPTED
                ? PALETTE_CURRENT(out, PALETTE_TICK_PIXELS - 1, PALETTE_OUTPUT_BLUE)
                : 0;
+}
+
+extern const uint8_t wanted[PALETTE_WANTED_BYTES];
+extern uint8_t writes[PALETTE_PLAN_BYTES];
+unsigned last_byte_of_the_plan(void);
+
+unsigned last_byte_of_the_plan(void)
+{
+    uint64_t result = palette_plan(snapshot, sizeof snapshot, wanted, sizeof wanted, writes,
+                                   sizeof writes);
+    size_t count = PALETTE_REFUSAL(result) == PALETTE_ACCEPTED ? PALETTE_COUNT(result) : 0;
+    return count > 0 ? writes[PALETTE_WRITE_BYTES * count - 1] : 0;
 }

@@ -2,20 +2,13 @@
 #include <stdio.h>
 #include <string.h>
 
+#include "draft.h"
 #include "files.h"
 #include "library.h"
 #include "outputs.h"
 #include "refusals.h"
 #include "subcommands.h"
 #include "text.h"
-
-/* The log so far: in a log's bytes the operands come behind all the kinds. */
-struct draft {
-    const struct chip *chip; /* NULL until it is named */
-    size_t events;
-    uint8_t kinds[PALETTE_MOST_EVENTS];
-    uint8_t operands[PALETTE_MOST_EVENTS][PALETTE_OPERAND_BYTES];
-};
 
 static bool refused(const struct text *text, unsigned refusal)
 {
@@ -24,15 +17,10 @@ static bool refused(const struct text *text, unsigned refusal)
 
 /* --- events ---------------------------------------------------------------- */
 
-static bool add_event(const struct text *text, struct draft *draft, uint8_t kind,
-                      const uint8_t *operand)
+static bool add(const struct text *text, struct draft *draft, uint8_t kind,
+                const uint8_t *operand)
 {
-    if (draft->events == PALETTE_MOST_EVENTS)
-        return refused(text, PALETTE_REFUSED_LOG_COUNT);
-    draft->kinds[draft->events] = kind;
-    memcpy(draft->operands[draft->events], operand, PALETTE_OPERAND_BYTES);
-    draft->events++;
-    return true;
+    return add_event(draft, kind, operand) || refused(text, PALETTE_REFUSED_LOG_COUNT);
 }
 
 static bool add_write(const struct text *text, struct draft *draft)
@@ -40,21 +28,21 @@ static bool add_write(const struct text *text, struct draft *draft)
     uint8_t operand[PALETTE_OPERAND_BYTES] = {0};
     return has_words(text, 3) && selector(text, draft->chip, text->word[1], &operand[0]) &&
            byte(text, text->word[2], &operand[1]) &&
-           add_event(text, draft, PALETTE_KIND_WRITE, operand);
+           add(text, draft, PALETTE_KIND_WRITE, operand);
 }
 
 static bool add_read(const struct text *text, struct draft *draft)
 {
     uint8_t operand[PALETTE_OPERAND_BYTES] = {0};
     return has_words(text, 2) && selector(text, draft->chip, text->word[1], &operand[0]) &&
-           add_event(text, draft, PALETTE_KIND_READ, operand);
+           add(text, draft, PALETTE_KIND_READ, operand);
 }
 
 static bool add_tick(const struct text *text, struct draft *draft)
 {
     uint8_t operand[PALETTE_OPERAND_BYTES];
     return operand_bytes(text, &draft->chip->tick, operand) &&
-           add_event(text, draft, PALETTE_KIND_TICK, operand);
+           add(text, draft, PALETTE_KIND_TICK, operand);
 }
 
 _Static_assert(PALETTE_MOST_EVENTS < TOO_LARGE, "no log has so many events");
@@ -67,7 +55,7 @@ static bool add_verticals(const struct text *text, struct draft *draft)
     if (text->words > 1 && !(has_words(text, 2) && number(text, text->word[1], &left)))
         return false;
     for (; left > 0; left--) {
-        if (!add_event(text, draft, PALETTE_KIND_VERTICAL, operand))
+        if (!add(text, draft, PALETTE_KIND_VERTICAL, operand))
             return false;
     }
     return true;
@@ -76,14 +64,14 @@ static bool add_verticals(const struct text *text, struct draft *draft)
 static bool add_save(const struct text *text, struct draft *draft)
 {
     static const uint8_t operand[PALETTE_OPERAND_BYTES] = {0};
-    return has_words(text, 1) && add_event(text, draft, PALETTE_KIND_SAVE, operand);
+    return has_words(text, 1) && add(text, draft, PALETTE_KIND_SAVE, operand);
 }
 
 static bool add_load(const struct text *text, struct draft *draft)
 {
     uint8_t operand[PALETTE_OPERAND_BYTES];
     return operand_bytes(text, &load_fields, operand) &&
-           add_event(text, draft, PALETTE_KIND_LOAD, operand);
+           add(text, draft, PALETTE_KIND_LOAD, operand);
 }
 
 static bool (*const adders[KINDS])(const struct text *text, struct draft *draft) = {
@@ -144,17 +132,6 @@ static int read_text(struct text *text, struct draft *draft)
         return STATUS_DONE;
     fault(text, "the text ends and has named no chip");
     return STATUS_REFUSED;
-}
-
-static void put_together(const struct draft *draft, struct log *log)
-{
-    uint8_t *next = log->bytes;
-    *next++ = draft->chip->number;
-    for (unsigned shift = 0; shift < 32; shift += 8)
-        *next++ = (uint8_t)((uint32_t)draft->events >> shift);
-    memcpy(next, draft->kinds, draft->events);
-    memcpy(next + draft->events, draft->operands, PALETTE_OPERAND_BYTES * draft->events);
-    log->len = PALETTE_LOG_BYTES(draft->events);
 }
 
 static int play(const struct words *words)

@@ -7,7 +7,8 @@
 # | ! what is printed on standard error
 # | [1]
 #
-# The last line is the exit status, left out if it is 0. Blank lines before a
+# The last line is the exit status, left out if it is 0. A printed line that looks
+# like a command or a comment has a backslash before it. Blank lines before a
 # command, a comment or the end are for the reader. Each command is a test and
 # starts in the same folder; the files that it leaves are there for the next.
 # shellcheck shell=bash
@@ -19,7 +20,7 @@ seen() { # folder, command, scratch file
     local status
     (cd "$1" && timeout 60 bash -c "$2") >"$3.out" 2>"$3.err" </dev/null
     status=$?
-    cat "$3.out"
+    sed 's/^[$#] /\\&/' "$3.out"
     [ ! -s "$3.out" ] || [ -z "$(tail -c 1 "$3.out")" ] || printf '\n\\ no end of line\n'
     sed 's/^/! /' "$3.err"
     [ "$status" -eq 0 ] || echo "[$status]"

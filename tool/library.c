@@ -15,6 +15,11 @@ bool read_log(const char *path, struct log *log)
     return read_file(path, log->bytes, sizeof log->bytes, &log->len);
 }
 
+bool read_wanted(const char *path, struct wanted *wanted)
+{
+    return read_file(path, wanted->bytes, sizeof wanted->bytes, &wanted->len);
+}
+
 /* Its places are all 0, so it has none. */
 static void fresh_snapshot(uint8_t chip, struct snapshot *snapshot)
 {
@@ -70,6 +75,20 @@ unsigned currents_refusal(const struct snapshot *snapshot)
     static const uint8_t operand[PALETTE_OPERAND_BYTES] = {0};
     uint8_t out[PALETTE_CURRENTS_BYTES];
     return tick_currents(snapshot, operand, out);
+}
+
+unsigned plan_writes(const struct snapshot *snapshot, const struct wanted *wanted,
+                     struct plan *plan)
+{
+    uint64_t result = palette_plan(snapshot->bytes, snapshot->len, wanted->bytes, wanted->len,
+                                   plan->bytes, sizeof plan->bytes);
+    plan->count = PALETTE_COUNT(result);
+    return PALETTE_REFUSAL(result);
+}
+
+const uint8_t *write_of(const struct plan *plan, size_t write)
+{
+    return plan->bytes + PALETTE_WRITE_BYTES * write;
 }
 
 size_t pixel_count(const uint8_t *answer)

@@ -1,5 +1,5 @@
-/* The library's byte strings: snapshots and logs from files, and the calls that
- * say whether they are accepted. */
+/* The library's byte strings: snapshots, logs and wanted tables from files, and the
+ * calls that say whether they are accepted. */
 #ifndef LIBRARY_H
 #define LIBRARY_H
 
@@ -21,6 +21,11 @@ struct log {
     size_t len;
 };
 
+struct wanted {
+    uint8_t bytes[PALETTE_WANTED_BYTES + 1];
+    size_t len;
+};
+
 /* What a run leaves. */
 struct answers {
     uint8_t bytes[PALETTE_MOST_ANSWER_BYTES];
@@ -28,8 +33,15 @@ struct answers {
     size_t end_len;
 };
 
+/* The fewest writes to a wanted table. */
+struct plan {
+    uint8_t bytes[PALETTE_PLAN_BYTES];
+    size_t count;
+};
+
 bool read_snapshot(const char *path, struct snapshot *snapshot);
 bool read_log(const char *path, struct log *log);
+bool read_wanted(const char *path, struct wanted *wanted);
 
 /* A snapshot of the fresh chip that the log names, of a fresh chip 1 where it
  * names none. */
@@ -49,6 +61,13 @@ unsigned tick_currents(const struct snapshot *snapshot, const uint8_t *operand, 
 
 /* Whether currents are given for a snapshot, whatever the tick: the refusal. */
 unsigned currents_refusal(const struct snapshot *snapshot);
+
+/* The writes that give the chip of a snapshot the wanted table; gives the refusal. */
+unsigned plan_writes(const struct snapshot *snapshot, const struct wanted *wanted,
+                     struct plan *plan);
+
+/* Of a plan: a write's selector and its byte, as in the operand of its event. */
+const uint8_t *write_of(const struct plan *plan, size_t write);
 
 /* Of a tick's answer: byte 1 the pixel count, byte 2 the levels, then each pixel's
  * codes. Where pixels have a bit beside their colour, the first one's is bit 1 of

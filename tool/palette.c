@@ -19,6 +19,7 @@
 static const struct subcommand *const subcommands[] = {
     &run_subcommand,      &show_subcommand, &diff_subcommand,
     &assemble_subcommand, &list_subcommand, &currents_subcommand,
+    &plan_subcommand,
 };
 enum { SUBCOMMANDS = sizeof subcommands / sizeof subcommands[0] };
 

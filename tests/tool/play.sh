@@ -45,6 +45,19 @@ squares() { # pixels on a side
             if (colours[order[i]] != "000000") print order[i], "#" colours[order[i]] }'
 }
 
+# A wanted table: black, but for the entries that are named.
+table() { # entry, its colour, another entry, its colour, ...
+    local entry colours=()
+    for ((entry = 0; entry < 256; entry++)); do
+        colours+=(000000)
+    done
+    while [ $# -gt 0 ]; do
+        colours[$1]=$2
+        shift 2
+    done
+    bytes "${colours[*]}"
+}
+
 # A command whose standard output is a pipe that nobody reads from any more, and
 # its status.
 into_closed_pipe() { # command...
@@ -52,4 +65,4 @@ into_closed_pipe() { # command...
     { cat closed.pipe >/dev/null && "$@"; echo "status $?" >&2; } | { exec <&- && echo >closed.pipe; }
     rm closed.pipe
 }
-export -f squares into_closed_pipe
+export -f squares table into_closed_pipe

@@ -1,5 +1,5 @@
 /*
- * No byte outside the four byte strings is touched, not even read: each string
+ * No byte outside a call's byte strings is touched, not even read: each string
  * is laid against a page that can't be accessed, behind it or before it, so a
  * step outside kills this program.
  *
@@ -8,7 +8,9 @@
  * The snapshot and the log must be accepted together, and the log must hold an
  * event. They are run whole, then with each shorter length of either, which
  * must be refused. Then the currents of a tick are asked for, whole and with
- * shorter strings alike; of another chip than a TLC34058 they are refused.
+ * shorter strings alike; of another chip than a TLC34058 they are refused. So
+ * are the writes to a wanted table in which every colour differs from the
+ * snapshot's; of another chip than an HD153129 they are refused.
  */
 #define _DEFAULT_SOURCE
 
@@ -21,7 +23,17 @@
 
 #include "palette.h"
 
-enum { STRINGS = 4, SNAPSHOT = 0, LOG, ANSWERS, END, OPERAND = LOG, OUT = ANSWERS };
+enum {
+    STRINGS = 4,
+    SNAPSHOT = 0,
+    LOG,
+    ANSWERS,
+    END,
+    OPERAND = LOG,
+    OUT = ANSWERS,
+    WANTED = LOG,
+    WRITES = ANSWERS
+};
 
 /* Room for one byte string between two pages that can't be accessed. */
 struct room {
@@ -146,6 +158,39 @@ static unsigned currents_of_all(const struct input *snapshot, bool behind)
     return wrong;
 }
 
+static uint64_t plan(const struct input *snapshot, size_t snapshot_len, const uint8_t *wanted,
+                     size_t wanted_len, size_t writes_len, bool behind)
+{
+    return palette_plan(place_copy(SNAPSHOT, snapshot->bytes, snapshot_len, behind), snapshot_len,
+                        place_copy(WANTED, wanted, wanted_len, behind), wanted_len,
+                        place(WRITES, writes_len, behind), writes_len);
+}
+
+/* The number of calls that were not judged as they should be. */
+static unsigned plan_all(const struct input *snapshot, bool behind)
+{
+    const size_t table = PALETTE_WANTED_BYTES, writes = PALETTE_PLAN_BYTES;
+    uint8_t wanted[PALETTE_WANTED_BYTES + 1];
+    bool known = snapshot->bytes[0] == PALETTE_CHIP_HD153129;
+    unsigned wrong = 0;
+    memset(wanted, 1, sizeof wanted);
+    uint64_t whole = plan(snapshot, snapshot->len, wanted, table, writes, behind);
+    wrong += PALETTE_REFUSAL(whole) != (known ? PALETTE_ACCEPTED : PALETTE_REFUSED_PLAN_CHIP);
+    wrong += PALETTE_COUNT(whole) != (known ? PALETTE_MOST_WRITES : 0);
+    for (size_t len = 0; len < writes; len++)
+        wrong += PALETTE_REFUSAL(plan(snapshot, snapshot->len, wanted, table, len, behind)) !=
+                 (known ? PALETTE_REFUSED_PLAN_BUFFER : PALETTE_REFUSED_PLAN_CHIP);
+    for (size_t len = 0; len <= table + 1; len++)
+        if (len != table)
+            wrong += PALETTE_REFUSAL(plan(snapshot, snapshot->len, wanted, len, writes, behind)) !=
+                     (known ? PALETTE_REFUSED_WANTED : PALETTE_REFUSED_PLAN_CHIP);
+    for (size_t len = 0; len < snapshot->len; len++)
+        wrong += PALETTE_REFUSAL(plan(snapshot, len, wanted, table, writes, behind)) !=
+                 (len < PALETTE_SNAPSHOT_HEADER_BYTES ? PALETTE_REFUSED_SNAPSHOT_SHORT
+                                                      : PALETTE_REFUSED_SNAPSHOT_LENGTH);
+    return wrong;
+}
+
 int main(int argc, char **argv)
 {
     static struct input snapshot, log;
@@ -164,7 +209,8 @@ int main(int argc, char **argv)
     rooms[ANSWERS] = make_room(PALETTE_MOST_ANSWER_BYTES);
     rooms[END] = make_room(PALETTE_END_BYTES);
     unsigned wrong = run_all(&snapshot, &log, true) + run_all(&snapshot, &log, false) +
-                     currents_of_all(&snapshot, true) + currents_of_all(&snapshot, false);
+                     currents_of_all(&snapshot, true) + currents_of_all(&snapshot, false) +
+                     plan_all(&snapshot, true) + plan_all(&snapshot, false);
     printf("%u calls judged wrongly\n", wrong);
     return wrong == 0 ? 0 : 1;
 }

@@ -1,5 +1,6 @@
 //! The built chips: selectors, places, which bytes and bits of an operand they
-//! use, and which of them has currents. Copied from documents 01 and 02.
+//! use, which of them has currents, and which plans. Copied from documents 01 and
+//! 02.
 //!
 //! Each table names every chip that it is for. A chip that isn't built has no
 //! row, and asking for it is a fault of the test.
@@ -12,6 +13,9 @@ pub const CHIPS: [u8; 3] = [1, 2, 3];
 
 /// The chip whose ticks have output currents.
 pub const CURRENTS_CHIP: u8 = 1;
+
+/// The chip that a plan of writes is made for.
+pub const PLAN_CHIP: u8 = 2;
 
 /// A chip byte that no chip has, where one example is wanted.
 pub const NOT_BUILT: u8 = 9;

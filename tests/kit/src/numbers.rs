@@ -1,5 +1,6 @@
-//! The sizes and limits of answers, logs, snapshots and currents. Copied from
-//! documents 01 and 02 and, of the call for currents, from the C header.
+//! The sizes and limits of answers, logs, snapshots, currents and plans. Copied
+//! from documents 01 and 02 and, of the calls for currents and plans, from the C
+//! header.
 
 /// An event's answer.
 pub const ANSWER_BYTES: usize = 18;
@@ -20,3 +21,12 @@ pub const OPERAND_BYTES: usize = 8;
 /// A tick's answer, and behind it three currents of 2 bytes for each of pixels
 /// A to E.
 pub const CURRENTS_BYTES: usize = ANSWER_BYTES + 2 * 3 * 5;
+/// The entries of the table that a plan is for.
+pub const WANTED_ENTRIES: usize = 256;
+/// The wanted colours of a plan, in place order.
+pub const WANTED_BYTES: usize = 3 * WANTED_ENTRIES;
+/// The most accesses of a plan.
+pub const MOST_ACCESSES: usize = 769;
+/// The buffer for a plan needs this much, however short the list: selector and
+/// byte of each write.
+pub const WRITES_BYTES: usize = 2 * MOST_ACCESSES;

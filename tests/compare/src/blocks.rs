@@ -36,7 +36,10 @@ pub struct Block {
     pub inputs: Vec<Vec<u8>>,
     /// 0 if the call is accepted.
     pub refusal: u64,
-    /// In the call's order: the answers first, the end snapshot last.
+    /// What is returned beside it: the end snapshot's length, or the count of
+    /// accesses.
+    pub number: usize,
+    /// In the call's order.
     pub buffers: Vec<Buffer>,
     /// What the printing program prints for a run's log, if the block says it.
     pub printed: Option<String>,
@@ -47,19 +50,25 @@ pub struct Block {
 impl Block {
     /// What the call returns.
     pub fn returned(&self) -> u64 {
-        let end = self.buffers.last().map_or(0, |end| end.written.len());
-        (self.refusal << 16) + end as u64
+        (self.refusal << 16) + self.number as u64
     }
 
     /// The refusals that it shows, 0 for none: returned, and in each answer.
     pub fn refusals(&self) -> Vec<u64> {
-        let apart = match self.call {
-            Call::Run => ANSWER_BYTES,
-            Call::Currents => CURRENTS_BYTES,
-        };
-        let answers = self.buffers[0].written.chunks(apart);
-        let in_answers = answers.map(|answer| u64::from(answer[0]));
-        [self.refusal].into_iter().chain(in_answers).collect()
+        let mut refusals = vec![self.refusal];
+        if let Some(apart) = answers_apart(self.call) {
+            let answers = self.buffers[0].written.chunks(apart);
+            refusals.extend(answers.map(|answer| u64::from(answer[0])));
+        }
+        refusals
+    }
+}
+
+/// How far apart the answers in a call's first buffer start, if it has them.
+fn answers_apart(call: Call) -> Option<usize> {
+    match call {
+        Call::Run => Some(ANSWER_BYTES),
+        Call::Currents => Some(CURRENTS_BYTES),
     }
 }
 

@@ -4,9 +4,9 @@
 //! cases --replay PROGRAM FILE.md|FOLDER..
 //!
 //! tests/stored/README.md describes the language. Compared are the returned
-//! number, every byte of both buffers, the bytes around them, the inputs, and
+//! number, every byte of the buffers, the bytes around them, the inputs, and
 //! every byte that is printed. Each file or folder must show every refusal of a
-//! run, and a file every one of the currents too. Prints a line for each case
+//! run, and a file every one of the other calls too. Prints a line for each case
 //! and 'N passed, M failed'.
 
 use compare::blocks::{self, Block};
@@ -19,13 +19,15 @@ use std::io;
 use std::path::{Path, PathBuf};
 use std::process::ExitCode;
 
-/// The refusals that a run can show, in its answers or returned.
-const REFUSALS: &[u64] = &[
-    1, 2, 3, 4, 5, 10, 11, 12, 13, 14, 15, 20, 21, 22, 23, 24, 25, 26, 30, 31,
-];
-
-/// The refusals that currents can show, 4 in their answer.
-const CURRENTS_REFUSALS: &[u64] = &[4, 13, 20, 21, 22, 23, 24, 25, 30, 31, 40];
+/// The refusals that a call can show, in its answers or returned.
+fn refusals(call: Call) -> &'static [u64] {
+    match call {
+        Call::Run => &[
+            1, 2, 3, 4, 5, 10, 11, 12, 13, 14, 15, 20, 21, 22, 23, 24, 25, 26, 30, 31,
+        ],
+        Call::Currents => &[4, 13, 20, 21, 22, 23, 24, 25, 30, 31, 40],
+    }
+}
 
 /// The number of a run's log among its inputs.
 const LOG: usize = 1;
@@ -76,22 +78,20 @@ impl Tally {
             };
             self.say(&name, fault);
         }
-        self.every_refusal(&name, Call::Run, REFUSALS, &shown);
         // The stored cases are runs.
-        if !path.is_dir() {
-            self.every_refusal(&name, Call::Currents, CURRENTS_REFUSALS, &shown);
+        let calls = if path.is_dir() {
+            &[Call::Run]
+        } else {
+            Call::ALL
+        };
+        for &call in calls {
+            self.every_refusal(&name, call, &shown);
         }
     }
 
-    fn every_refusal(
-        &mut self,
-        name: &str,
-        call: Call,
-        refusals: &[u64],
-        shown: &BTreeSet<(Call, u64)>,
-    ) {
+    fn every_refusal(&mut self, name: &str, call: Call, shown: &BTreeSet<(Call, u64)>) {
         let is_missing = |&&number: &&u64| !shown.contains(&(call, number));
-        let missing: Vec<_> = refusals.iter().filter(is_missing).collect();
+        let missing: Vec<_> = refusals(call).iter().filter(is_missing).collect();
         let fault = (!missing.is_empty()).then(|| format!("no case shows {missing:?}"));
         self.say(&format!("{name}, every refusal of {}", call.name()), fault);
     }

@@ -38,6 +38,7 @@ impl crate::blocks::Draft for Draft {
 
     fn block(mut self) -> Result<Block, String> {
         let out = self.whole_out()?;
+        let end = self.end.take().unwrap_or_default();
         let (out_len, end_len) = self.buffers.unwrap_or((CURRENTS_BYTES, END_BUFFER));
         Ok(Block {
             call: Call::Currents,
@@ -46,9 +47,10 @@ impl crate::blocks::Draft for Draft {
                 self.operand.ok_or("it has no operand")?,
             ],
             refusal: self.refused.unwrap_or(0),
+            number: end.len(),
             buffers: vec![
                 Buffer::holding(out, out_len)?,
-                Buffer::holding(self.end.unwrap_or_default(), end_len)?,
+                Buffer::holding(end, end_len)?,
             ],
             printed: None,
             event_lines: Vec::new(),

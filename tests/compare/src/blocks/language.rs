@@ -24,13 +24,17 @@ pub fn refusal(words: &[&str]) -> Result<u64, String> {
     .ok_or("no refusal's number".into())
 }
 
+/// The sizes of two buffers.
 pub fn buffers(words: &[&str]) -> Result<(usize, usize), String> {
     match words {
-        [first, end] => number(first).zip(number(end)),
+        [first, end] => size(first).zip(size(end)),
         _ => None,
     }
-    .filter(|&(first, end)| first <= MOST_BYTES && end <= MOST_BYTES)
     .ok_or("no two sizes".into())
+}
+
+fn size(word: &str) -> Option<usize> {
+    number(word).filter(|&size| size <= MOST_BYTES)
 }
 
 /// The bytes, if there are as many as belong.

@@ -58,14 +58,16 @@ impl crate::blocks::Draft for Draft {
         let log = self.whole_log()?;
         let (answers, event_lines) = self.whole_answers()?;
         let printed = self.whole_printed(&answers)?;
+        let end = self.end.take().unwrap_or_default();
         let (answers_len, end_len) = self.buffers.unwrap_or((answers.len(), END_BUFFER));
         Ok(Block {
             call: Call::Run,
             inputs: vec![snapshot, log],
             refusal: self.refused.unwrap_or(0),
+            number: end.len(),
             buffers: vec![
                 Buffer::holding(answers, answers_len)?,
-                Buffer::holding(self.end.unwrap_or_default(), end_len)?,
+                Buffer::holding(end, end_len)?,
             ],
             printed,
             event_lines,

@@ -30,6 +30,10 @@ pub trait Compared: Clone {
     /// The call that it is a case of.
     const CALL: Call;
 
+    /// The calls that the library must have: this one, and each that is made to
+    /// judge what it gave.
+    const NEEDED: &'static [Call] = &[Self::CALL];
+
     /// What the cases of this call must have shown.
     fn table() -> &'static Table;
 
@@ -37,6 +41,12 @@ pub trait Compared: Clone {
     fn model(strings: &mut [Vec<u8>]) -> u64;
 
     fn lending(&self) -> Lending;
+
+    /// What is wrong with what the library gave, if anything. Where one outcome
+    /// alone is right, it is every difference from the model's.
+    fn wrong(&self, library: &Outcome, model: &Outcome) -> Option<String> {
+        difference(Self::CALL, library, model)
+    }
 
     /// What an outcome shows that was agreed on.
     fn shown(&self, agreed: &Outcome) -> Vec<Shown>;
@@ -60,12 +70,14 @@ pub trait Compared: Clone {
         }
     }
 
-    /// What both gave, or what differs.
+    /// What the library gave, or what is wrong with it. Whatever the call, it
+    /// changes no byte but those of its buffers.
     fn agreed(&self) -> Result<Outcome, String> {
         let library = self.run_library();
-        match difference(Self::CALL, &library, &self.run_model()) {
+        let trespass = library.trespass.clone();
+        match trespass.or_else(|| self.wrong(&library, &self.run_model())) {
             None => Ok(library),
-            Some(difference) => Err(difference),
+            Some(wrong) => Err(wrong),
         }
     }
 

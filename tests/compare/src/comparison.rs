@@ -4,14 +4,13 @@
 use crate::calls::classes as calls;
 use crate::calls::drive::{self, Batch};
 use crate::calls::record::{Record, TABLES};
-use crate::classes as runs;
 use crate::compared::{Class, Compared, Sweep};
-use crate::currents::classes as currents;
 use crate::library::{lacks, Call};
 use crate::replay::{self, Input, INPUTS};
-use crate::report::{Failure, Report, Subject, Table, CURRENTS, RUNS};
+use crate::report::{Failure, Report, Subject};
 use crate::sheets::{Sheet, SHEETS};
 use crate::shuffle::{Shuffle, SHUFFLES};
+use crate::{case, classes, currents};
 use kit::{hexadecimal, Random};
 use std::path::{Path, PathBuf};
 
@@ -65,19 +64,21 @@ impl Comparison {
         random_for(self.seed, name, round)
     }
 
-    /// Whether a class can be tried: the library must have its call.
-    fn begins(&mut self, name: &'static str, call: Call) -> bool {
+    /// Whether a class can be tried: the library must have its calls.
+    fn begins(&mut self, name: &'static str, needed: &[Call]) -> bool {
         self.report.expect(name);
-        if !call.is_there() {
+        let missing = needed.iter().find(|call| !call.is_there());
+        if let Some(&call) = missing {
             self.lacking(name, &lacks(call));
         }
-        call.is_there()
+        missing.is_none()
     }
 
-    /// What a call must have shown, unless the library may lack it and does.
-    fn expect_outcomes(&mut self, call: Call, table: &'static Table) {
-        if call.is_there() || !self.may_lack {
-            self.report.expect_outcomes(table);
+    /// What a call's cases must have shown, unless the library may lack a call
+    /// that they need and does.
+    fn expect_outcomes<C: Compared>(&mut self) {
+        if C::NEEDED.iter().all(|call| call.is_there()) || !self.may_lack {
+            self.report.expect_outcomes(C::table());
         }
     }
 
@@ -113,7 +114,7 @@ impl Comparison {
         small
     }
 
-    /// One case: library and model must agree on everything.
+    /// One case: nothing may be wrong with what the library gives.
     fn compare<C: Compared>(&mut self, name: &'static str, case: &C) {
         match case.agreed() {
             Ok(outcome) => {
@@ -142,7 +143,7 @@ impl Comparison {
     }
 
     fn random_class<C: Compared>(&mut self, class: &Class<C>, round: u64) {
-        if !self.begins(class.name, C::CALL) {
+        if !self.begins(class.name, C::NEEDED) {
             return;
         }
         let mut random = self.random(class.name, round);
@@ -155,7 +156,7 @@ impl Comparison {
     }
 
     fn sweep<C: Compared>(&mut self, sweep: &Sweep<C>) {
-        if !self.begins(sweep.name, C::CALL) {
+        if !self.begins(sweep.name, C::NEEDED) {
             return;
         }
         let mut random = self.random(sweep.name, 0);
@@ -169,7 +170,7 @@ impl Comparison {
 
     /// Each example by the papers, and against the model.
     fn sheet(&mut self, sheet: &Sheet) {
-        if !self.begins(sheet.name, Call::Run) {
+        if !self.begins(sheet.name, &[Call::Run]) {
             return;
         }
         for example in (sheet.examples)() {
@@ -190,7 +191,7 @@ impl Comparison {
     }
 
     fn shuffles(&mut self, shuffle: &Shuffle, round: u64) {
-        if !self.begins(shuffle.name, Call::Run) {
+        if !self.begins(shuffle.name, &[Call::Run]) {
             return;
         }
         let mut random = self.random(shuffle.name, round);
@@ -289,11 +290,9 @@ impl Comparison {
                 (small, what)
             }
         };
-        // Records of one call are equally long: bytes that are 0 don't count.
-        let bytes = small.bytes();
         Failure {
             what,
-            size: bytes.iter().filter(|&&byte| byte != 0).count(),
+            size: drive::size(&small),
             described: drive::described(&small),
         }
     }
@@ -326,15 +325,15 @@ impl Comparison {
 
     /// Everything that is tried once.
     pub fn once(&mut self, programs: &Programs) {
-        self.expect_outcomes(Call::Run, &RUNS);
-        self.expect_outcomes(Call::Currents, &CURRENTS);
+        self.expect_outcomes::<case::Case>();
+        self.expect_outcomes::<currents::case::Case>();
         for sheet in SHEETS {
             self.sheet(sheet);
         }
-        for sweep in runs::SWEEPS {
+        for sweep in classes::SWEEPS {
             self.sweep(sweep);
         }
-        for sweep in currents::SWEEPS {
+        for sweep in currents::classes::SWEEPS {
             self.sweep(sweep);
         }
         for input in INPUTS {
@@ -352,18 +351,18 @@ impl Comparison {
 
     /// Everything that is tried anew in each round.
     pub fn round(&mut self, programs: &Programs, round: u64) {
-        for class in runs::RANDOM {
+        for class in classes::RANDOM {
             self.random_class(class, round);
         }
-        for class in currents::RANDOM {
+        for class in currents::classes::RANDOM {
             self.random_class(class, round);
         }
         for shuffle in SHUFFLES {
             self.shuffles(shuffle, round);
         }
-        self.begins(CONDITION_HELD, Call::Run);
-        self.begins(CONDITION_MATTERS, Call::Run);
-        self.begins(ENDS_DIFFER, Call::Run);
+        self.begins(CONDITION_HELD, &[Call::Run]);
+        self.begins(CONDITION_MATTERS, &[Call::Run]);
+        self.begins(ENDS_DIFFER, &[Call::Run]);
         for class in calls::RANDOM {
             self.call_class(programs, class, round);
         }

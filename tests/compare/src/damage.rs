@@ -220,6 +220,45 @@ pub fn snapshot_with_two_faults(random: &mut Random, chip: u8) -> Vec<u8> {
     snapshot_bytes(chip, &pairs)
 }
 
+/// Each fault of a snapshot and each that is looked for behind it, in this order:
+/// by itself, and with each that is looked for behind it.
+pub fn one_and_two(behind: &[Refusal]) -> Vec<Vec<Refusal>> {
+    let mut faults = Vec::new();
+    let starts = SNAPSHOT_FAULTS.map(|fault| (fault, 0));
+    let later = behind.iter().copied().zip(1..);
+    for (first, later) in starts.into_iter().chain(later) {
+        faults.push(vec![first]);
+        let next = behind.iter().skip(later);
+        faults.extend(next.map(|&next| vec![first, next]));
+    }
+    faults
+}
+
+/// Any of the faults, in a snapshot and behind it, in their order.
+pub fn some_faults(random: &mut Random, behind: &[Refusal]) -> Vec<Refusal> {
+    let mut faults = Vec::new();
+    if random.one_in(3) {
+        faults.push(random.pick(&SNAPSHOT_FAULTS));
+    }
+    faults.extend(behind.iter().filter(|_| random.one_in(2)));
+    faults
+}
+
+/// A length under the least that is accepted, among others one that would hold
+/// a part.
+pub fn too_short(random: &mut Random, least: usize, part: usize) -> usize {
+    let any = random.below(least);
+    random.pick(&[0, 1, part, least - 1, any])
+}
+
+/// The chip that a snapshot names, or each that is built if it names none.
+pub fn chips_named(snapshot: &[u8]) -> Vec<u8> {
+    let named = |chip: &u8| snapshot.first() == Some(chip);
+    let any = CHIPS.iter().any(named);
+    let chips = CHIPS.into_iter();
+    chips.filter(|chip| named(chip) || !any).collect()
+}
+
 /// Some places before the first one there is, so that there are always a few.
 fn first_places(pairs: &[(u16, u8)]) -> Vec<(u16, u8)> {
     let stop = pairs.first().map_or(3, |&(place, _)| place.min(3));

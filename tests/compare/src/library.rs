@@ -238,35 +238,43 @@ pub fn bare_run(snapshot: &[u8], log: &[u8], answers: &mut [u8], end: &mut [u8])
 
 /// The first difference between what the library and the model gave.
 pub fn difference(call: Call, library: &Outcome, model: &Outcome) -> Option<String> {
-    if library.trespass.is_some() {
-        return library.trespass.clone();
-    }
-    if library.result != model.result {
-        return Some(format!(
-            "the library returned {}, the model {}",
-            in_words(library.result),
-            in_words(model.result)
-        ));
-    }
-    let strings = library.strings.iter().zip(&model.strings);
-    let mut named = strings.zip(call.strings());
-    named.find_map(|((library, model), (_, name))| string_difference(name, library, model))
+    let mut numbers = 0..call.strings().len();
+    result_difference(library, model)
+        .or_else(|| numbers.find_map(|n| string_difference(call, n, 0, library, model)))
 }
 
-fn string_difference(name: &str, library: &[u8], model: &[u8]) -> Option<String> {
-    let index = (0..model.len()).find(|&i| library[i] != model[i])?;
+/// The difference between the returned numbers, if there is one.
+pub fn result_difference(library: &Outcome, model: &Outcome) -> Option<String> {
+    let (library, model) = (library.result, model.result);
+    (library != model).then(|| {
+        let (library, model) = (in_words(library), in_words(model));
+        format!("the library returned {library}, the model {model}")
+    })
+}
+
+/// The first difference from byte `from` on of the byte string with this number.
+pub fn string_difference(
+    call: Call,
+    number: usize,
+    from: usize,
+    library: &Outcome,
+    model: &Outcome,
+) -> Option<String> {
+    let (library, model) = (&library.strings[number], &model.strings[number]);
+    let index = (from..model.len()).find(|&i| library[i] != model[i])?;
+    let (_, name) = call.strings()[number];
     Some(format!(
         "{name}, byte {index}: the library has {:02x}, the model {:02x}",
         library[index], model[index]
     ))
 }
 
-/// A returned number as refusal and length.
+/// A returned number as a refusal and the number beside it: a length or a count.
 pub fn in_words(result: u64) -> String {
-    match result >> 16 {
-        0 => format!("length {result}"),
-        refusal if result & 0xFFFF == 0 => format!("refusal {refusal}"),
-        refusal => format!("refusal {refusal} with length {}", result & 0xFFFF),
+    match (result >> 16, result & 0xFFFF) {
+        (0, number) => number.to_string(),
+        (refusal, 0) => format!("refusal {refusal}"),
+        (refusal, number) => format!("refusal {refusal} and {number}"),
     }
 }
 

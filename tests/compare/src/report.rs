@@ -8,6 +8,13 @@ use std::collections::BTreeMap;
 /// number that would have come but for it, 0 if none is counted.
 pub type Shown = (u64, u64);
 
+/// A refusal by itself, and with each that would come if its fault were mended,
+/// one for each way to mend it; 0 is none.
+pub fn shown_before(refusal: u64, next: impl Iterator<Item = u64>) -> Vec<Shown> {
+    let behind = next.filter(|&next| next != 0).map(|next| (refusal, next));
+    [(refusal, 0)].into_iter().chain(behind).collect()
+}
+
 /// A line of the verdict: what must have been shown, and what it means.
 pub struct Row {
     pub shown: Shown,

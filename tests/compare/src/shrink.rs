@@ -187,6 +187,27 @@ fn plainer_byte<C: Clone>(best: &mut C, attempt: &mut Attempt<C>, at: usize, par
     }
 }
 
+/// Sets runs of a byte string to 0, long runs first.
+pub fn clear_runs<C: Clone>(
+    best: &mut C,
+    attempt: &mut Attempt<C>,
+    part: impl Fn(&mut C) -> &mut [u8],
+) {
+    let len = part(best).len();
+    let mut run = len;
+    while run > 0 {
+        for start in (0..len).step_by(run) {
+            let mut candidate = best.clone();
+            let bytes = &mut part(&mut candidate)[start..len.min(start + run)];
+            if bytes.iter().any(|&byte| byte != 0) {
+                bytes.fill(0);
+                attempt(candidate, best);
+            }
+        }
+        run /= 2;
+    }
+}
+
 fn shorter<C: Clone>(best: &mut C, attempt: &mut Attempt<C>, part: Part<C>) {
     let mut cut = part(best).len();
     while cut > 0 {

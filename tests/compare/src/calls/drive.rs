@@ -2,6 +2,7 @@
 
 use crate::calls::record::{Record, MOST_RECORDS};
 use crate::program::{printed_by, WHOLE};
+use crate::shrink::{clear_runs, nonzero_bytes, search};
 use kit::hexadecimal;
 use std::path::Path;
 
@@ -67,33 +68,19 @@ impl Batch {
 /// A record that is still wrong by itself, with fewer bytes that aren't 0,
 /// found in at most `tries` tries, which are taken off.
 pub fn shrunk(program: &Path, record: &Record, tries: &mut usize) -> Record {
-    let mut best = record.clone();
-    for number in 0..best.clearable().len() {
-        clear_runs(program, &mut best, number, tries);
-    }
-    best
+    let mut fails = |record: &Record| wrong_alone(program, record).is_some();
+    search(record, tries, &mut fails, size, |best, attempt| {
+        for number in 0..best.clearable().len() {
+            clear_runs(best, attempt, |record| {
+                record.clearable().swap_remove(number)
+            });
+        }
+    })
 }
 
-/// Sets runs of what has this number among the clearable to 0, long runs first.
-fn clear_runs(program: &Path, best: &mut Record, number: usize, tries: &mut usize) {
-    let len = best.clearable()[number].len();
-    let mut run = len;
-    while run > 0 {
-        let mut start = 0;
-        while start < len && *tries > 0 {
-            let mut candidate = best.clone();
-            let bytes = &mut candidate.clearable()[number][start..len.min(start + run)];
-            if bytes.iter().any(|&byte| byte != 0) {
-                bytes.fill(0);
-                *tries -= 1;
-                if wrong_alone(program, &candidate).is_some() {
-                    *best = candidate;
-                }
-            }
-            start += run;
-        }
-        run /= 2;
-    }
+/// The bytes that aren't 0: a call's state is as long in every record.
+pub fn size(record: &Record) -> usize {
+    nonzero_bytes(&record.bytes())
 }
 
 /// What is wrong with a record that is played by itself, if anything.

@@ -1,11 +1,12 @@
 //! One case of the currents: a snapshot, a tick's operand and two buffers.
 
 use crate::compared::{pattern, Compared, Lending};
-use crate::damage::SNAPSHOT_FAULTS;
+use crate::damage::{chips_named, SNAPSHOT_FAULTS};
 use crate::library::{Call, Outcome};
-use crate::report::{Shown, Table, CURRENTS};
+use crate::report::{shown_before, Shown, Table, CURRENTS};
 use crate::shrink::{fewer_places, nonzero_bytes, plainer, plainer_snapshot, search, Attempt};
-use kit::{Random, CHIPS, CURRENTS_BYTES, CURRENTS_CHIP, END_BYTES, OPERAND_BYTES};
+use kit::{snapshot_bytes, Random};
+use kit::{CURRENTS_BYTES, CURRENTS_CHIP, END_BYTES, OPERAND_BYTES};
 use model::Refusal;
 
 /// The number of the byte string that starts with the answer.
@@ -42,9 +43,10 @@ impl Case {
         let is = |fault: Refusal| refusal == u64::from(fault.number());
         let mut case = self.clone();
         if SNAPSHOT_FAULTS.into_iter().any(is) {
-            return self.with_fresh_chips();
+            let chips = chips_named(&self.snapshot).into_iter();
+            return chips.map(|chip| self.on_fresh(chip)).collect();
         } else if is(Refusal::CurrentsChip) {
-            case.snapshot = fresh(CURRENTS_CHIP);
+            return vec![self.on_fresh(CURRENTS_CHIP)];
         } else if is(Refusal::LogLength) {
             case.operand.resize(OPERAND_BYTES, 0);
         } else if is(Refusal::AnswerBuffer) {
@@ -57,16 +59,11 @@ impl Case {
         vec![case]
     }
 
-    /// With the fresh chip that the snapshot names, or each if it names none.
-    fn with_fresh_chips(&self) -> Vec<Case> {
-        let named = |&chip: &u8| self.snapshot.first() == Some(&chip);
-        let any = CHIPS.iter().any(named);
-        let chips = CHIPS.into_iter().filter(|chip| named(chip) || !any);
-        let on = |chip| Case {
-            snapshot: fresh(chip),
+    fn on_fresh(&self, chip: u8) -> Case {
+        Case {
+            snapshot: snapshot_bytes(chip, &[]),
             ..self.clone()
-        };
-        chips.map(on).collect()
+        }
     }
 
     /// A smaller case for which `fails` still holds.
@@ -93,10 +90,6 @@ impl Case {
             nonzero_bytes(&self.snapshot) + nonzero_bytes(&self.operand),
         )
     }
-}
-
-fn fresh(chip: u8) -> Vec<u8> {
-    vec![chip, 0, 0]
 }
 
 /// The operand and the buffers of just the size that is asked for.
@@ -154,9 +147,7 @@ impl Compared for Case {
     fn shown(&self, agreed: &Outcome) -> Vec<Shown> {
         let first = refusal(agreed);
         let mended = self.mended(first).into_iter();
-        let next = mended.map(|case| refusal(&case.run_model()));
-        let behind = next.filter(|&next| next != 0).map(|next| (first, next));
-        [(first, 0)].into_iter().chain(behind).collect()
+        shown_before(first, mended.map(|case| refusal(&case.run_model())))
     }
 
     fn shrunk(&self, tries: &mut usize) -> Case {

@@ -4,8 +4,9 @@
 use crate::classes::{lively, places_alone, scramble};
 use crate::compared::{class, Class, Sweep};
 use crate::currents::case::Case;
-use crate::currents::faults::{accepted, one_and_two, planted, BEHIND_THE_SNAPSHOT};
+use crate::currents::faults::{accepted, planted, BEHIND_THE_SNAPSHOT};
 use crate::damage::{damaged_snapshot, snapshot_with_two_faults, SNAPSHOT_FAULTS};
+use crate::damage::{one_and_two, some_faults};
 use kit::{nonzero, p1, place_count, snapshot_bytes, Random, ANSWER_BYTES, CHIPS};
 use kit::{CURRENTS_BYTES, CURRENTS_CHIP, END_BYTES, OPERAND_BYTES};
 use model::{Operand, Refusal};
@@ -55,13 +56,8 @@ fn shown(random: &mut Random) -> Case {
     case
 }
 
-/// Any of the faults, in the snapshot and behind it.
 fn several_faults(random: &mut Random) -> Case {
-    let mut faults = Vec::new();
-    if random.one_in(3) {
-        faults.push(random.pick(&SNAPSHOT_FAULTS));
-    }
-    faults.extend(BEHIND_THE_SNAPSHOT.into_iter().filter(|_| random.one_in(2)));
+    let faults = some_faults(random, &BEHIND_THE_SNAPSHOT);
     planted(random, &faults)
 }
 
@@ -248,7 +244,7 @@ fn empty_strings(random: &mut Random) -> Vec<Case> {
 fn each_refusal(random: &mut Random) -> Vec<Case> {
     const TIMES: usize = 20;
     let mut cases = Vec::new();
-    for faults in one_and_two() {
+    for faults in one_and_two(&BEHIND_THE_SNAPSHOT) {
         cases.extend((0..TIMES).map(|_| planted(random, &faults)));
     }
     cases

@@ -1,7 +1,7 @@
 //! Faults that a case of the currents can have, planted beside one another.
 
 use crate::currents::case::Case;
-use crate::damage::{damaged_snapshot, SNAPSHOT_FAULTS};
+use crate::damage::{damaged_snapshot, too_short};
 use kit::{undefined_tick_bits, Random, CURRENTS_CHIP};
 use kit::{ANSWER_BYTES, CURRENTS_BYTES, END_BYTES, OPERAND_BYTES};
 use model::Refusal;
@@ -15,19 +15,6 @@ pub const BEHIND_THE_SNAPSHOT: [Refusal; 5] = [
     Refusal::EndBuffer,
     Refusal::UndefinedBits,
 ];
-
-/// Each fault by itself, and with each that is looked for behind it.
-pub fn one_and_two() -> Vec<Vec<Refusal>> {
-    let mut faults = Vec::new();
-    let starts = SNAPSHOT_FAULTS.map(|fault| (fault, 0));
-    let behind = BEHIND_THE_SNAPSHOT.into_iter().zip(1..);
-    for (first, later) in starts.into_iter().chain(behind) {
-        faults.push(vec![first]);
-        let next = BEHIND_THE_SNAPSHOT.iter().skip(later);
-        faults.extend(next.map(|&next| vec![first, next]));
-    }
-    faults
-}
 
 /// A tick on a state, with no fault.
 pub fn accepted(random: &mut Random) -> Case {
@@ -66,11 +53,4 @@ fn plant(random: &mut Random, case: &mut Case, fault: Refusal) {
         }
         _ => case.snapshot = damaged_snapshot(random, case.snapshot[0], fault),
     }
-}
-
-/// A length under the least that is accepted, among others one that would hold
-/// a part.
-fn too_short(random: &mut Random, least: usize, part: usize) -> usize {
-    let any = random.below(least);
-    random.pick(&[0, 1, part, least - 1, any])
 }

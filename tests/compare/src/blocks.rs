@@ -5,6 +5,7 @@
 
 mod currents;
 mod language;
+mod plan;
 mod run;
 
 use crate::library::Call;
@@ -69,6 +70,7 @@ fn answers_apart(call: Call) -> Option<usize> {
     match call {
         Call::Run => Some(ANSWER_BYTES),
         Call::Currents => Some(CURRENTS_BYTES),
+        Call::Plan => None,
     }
 }
 
@@ -119,6 +121,7 @@ fn marked(line: &str) -> Option<Reader> {
     match line.trim_matches('`').trim() {
         "run" => Some(|lines| drafted::<run::Draft>(lines)?.block()),
         "currents" => Some(|lines| drafted::<currents::Draft>(lines)?.block()),
+        "plan" => Some(|lines| drafted::<plan::Draft>(lines)?.block()),
         _ => None,
     }
 }
@@ -320,9 +323,10 @@ mod tests {
     fn a_document_has_blocks_of_each_call() {
         let text = "```run\nsnapshot\nlog\nrefused 20\n```\n\
             ```currents\nsnapshot\noperand\nrefused 20\n```\n\
+            ```plan\nsnapshot\nwanted\nrefused 20\n```\n\
             ```current\nsnapshot\n```\n";
         let blocks = in_document(text).into_iter();
         let calls: Vec<_> = blocks.map(|(_, block)| block.map(|b| b.call)).collect();
-        assert_eq!(calls, [Ok(Call::Run), Ok(Call::Currents)]);
+        assert_eq!(calls, [Ok(Call::Run), Ok(Call::Currents), Ok(Call::Plan)]);
     }
 }

@@ -10,7 +10,7 @@ use crate::replay::{self, Input, INPUTS};
 use crate::report::{Failure, Report, Subject};
 use crate::sheets::{Sheet, SHEETS};
 use crate::shuffle::{Shuffle, SHUFFLES};
-use crate::{case, classes, currents};
+use crate::{case, classes, currents, plan};
 use kit::{hexadecimal, Random};
 use std::path::{Path, PathBuf};
 
@@ -327,6 +327,7 @@ impl Comparison {
     pub fn once(&mut self, programs: &Programs) {
         self.expect_outcomes::<case::Case>();
         self.expect_outcomes::<currents::case::Case>();
+        self.expect_outcomes::<plan::case::Case>();
         for sheet in SHEETS {
             self.sheet(sheet);
         }
@@ -334,6 +335,9 @@ impl Comparison {
             self.sweep(sweep);
         }
         for sweep in currents::classes::SWEEPS {
+            self.sweep(sweep);
+        }
+        for sweep in plan::classes::SWEEPS {
             self.sweep(sweep);
         }
         for input in INPUTS {
@@ -355,6 +359,9 @@ impl Comparison {
             self.random_class(class, round);
         }
         for class in currents::classes::RANDOM {
+            self.random_class(class, round);
+        }
+        for class in plan::classes::RANDOM {
             self.random_class(class, round);
         }
         for shuffle in SHUFFLES {

@@ -12,6 +12,7 @@ pub mod currents;
 pub mod damage;
 pub mod library;
 pub mod options;
+pub mod plan;
 pub mod program;
 pub mod replay;
 pub mod report;

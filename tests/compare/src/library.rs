@@ -55,6 +55,7 @@ calls! {
     Run = palette_run(Read "snapshot", Read "log", Write "answer buffer", Write "end buffer"),
     Currents =
         palette_currents(Read "snapshot", Read "operand", Write "out buffer", Write "end buffer"),
+    Plan = palette_plan(Read "snapshot", Read "wanted bytes", Write "writes buffer"),
 }
 
 type Address = Option<unsafe extern "C" fn()>;

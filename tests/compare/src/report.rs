@@ -155,6 +155,45 @@ pub static CURRENTS: Table = Table {
     ],
 };
 
+/// The plan: 20 to 25, 41, 42, then 43, each before each later one. The faults of
+/// a snapshot count as one check.
+pub static PLANS: Table = Table {
+    title: "plans",
+    rows: &[
+        ACCEPTED,
+        row(Refusal::SnapshotShort, "snapshot under 3 bytes"),
+        row(Refusal::SnapshotChip, "snapshot's chip"),
+        row(Refusal::SnapshotCount, "snapshot's count"),
+        row(Refusal::SnapshotLength, "snapshot's length"),
+        row(Refusal::Place, "place"),
+        row(Refusal::Value, "value"),
+        row(Refusal::PlanChip, "another chip"),
+        row(Refusal::Wanted, "wanted bytes"),
+        row(Refusal::WritesBuffer, "writes buffer"),
+        before(Refusal::SnapshotShort, Refusal::PlanChip),
+        before(Refusal::SnapshotShort, Refusal::Wanted),
+        before(Refusal::SnapshotShort, Refusal::WritesBuffer),
+        before(Refusal::SnapshotChip, Refusal::PlanChip),
+        before(Refusal::SnapshotChip, Refusal::Wanted),
+        before(Refusal::SnapshotChip, Refusal::WritesBuffer),
+        before(Refusal::SnapshotCount, Refusal::PlanChip),
+        before(Refusal::SnapshotCount, Refusal::Wanted),
+        before(Refusal::SnapshotCount, Refusal::WritesBuffer),
+        before(Refusal::SnapshotLength, Refusal::PlanChip),
+        before(Refusal::SnapshotLength, Refusal::Wanted),
+        before(Refusal::SnapshotLength, Refusal::WritesBuffer),
+        before(Refusal::Place, Refusal::PlanChip),
+        before(Refusal::Place, Refusal::Wanted),
+        before(Refusal::Place, Refusal::WritesBuffer),
+        before(Refusal::Value, Refusal::PlanChip),
+        before(Refusal::Value, Refusal::Wanted),
+        before(Refusal::Value, Refusal::WritesBuffer),
+        before(Refusal::PlanChip, Refusal::Wanted),
+        before(Refusal::PlanChip, Refusal::WritesBuffer),
+        before(Refusal::Wanted, Refusal::WritesBuffer),
+    ],
+};
+
 /// One class: how many cases were checked, and what became of it.
 struct Line {
     name: &'static str,

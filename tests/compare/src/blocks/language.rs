@@ -33,6 +33,15 @@ pub fn buffers(words: &[&str]) -> Result<(usize, usize), String> {
     .ok_or("no two sizes".into())
 }
 
+/// The size of a call's only buffer.
+pub fn buffer(words: &[&str]) -> Result<usize, String> {
+    match words {
+        [word] => size(word),
+        _ => None,
+    }
+    .ok_or("not one size".into())
+}
+
 fn size(word: &str) -> Option<usize> {
     number(word).filter(|&size| size <= MOST_BYTES)
 }

@@ -3,7 +3,8 @@
 
 use crate::calls::classes as calls;
 use crate::calls::drive::{self, Batch};
-use crate::calls::record::{Record, TABLES};
+use crate::calls::record::Record;
+use crate::calls::tables::TABLES;
 use crate::compared::{Class, Compared, Sweep};
 use crate::library::{lacks, Call};
 use crate::replay::{self, Input, INPUTS};

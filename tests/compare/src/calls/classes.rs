@@ -539,7 +539,8 @@ mod tests {
     //! What the classes come to, by the model alone: they need no program.
 
     use super::{every_code_shown, RANDOM, SWEEPS};
-    use crate::calls::record::{Record, TABLES};
+    use crate::calls::record::Record;
+    use crate::calls::tables::TABLES;
     use crate::report::Shown;
     use kit::Random;
     use std::collections::BTreeSet;

@@ -6,3 +6,4 @@ pub mod classes;
 pub mod drive;
 pub mod faults;
 pub mod record;
+pub mod tables;

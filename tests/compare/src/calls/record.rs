@@ -14,7 +14,8 @@
 //!
 //! Bytes are printed as lowercase hexadecimal digits, numbers in decimal.
 
-use crate::report::{before, row, Shown, Table, ACCEPTED};
+use crate::calls::tables::{CURRENTS, EVENTS, RESTORES, SAVES};
+use crate::report::{shown_before, Shown, Table};
 use kit::{hexadecimal, highest_kind, kinds_not_on, largest, other_chips, place_count};
 use kit::{used_bytes, CHIPS, CURRENTS_CHIP};
 use model::{event, kind, restore, save_into, tick_currents, Event, Operand, Refusal, State};
@@ -221,9 +222,7 @@ impl Record {
     pub fn shown(&self) -> Vec<Shown> {
         let first = self.expected().refusal;
         let mended = self.mended(first).into_iter();
-        let next = mended.map(|record| record.expected().refusal);
-        let behind = next.filter(|&next| next != 0).map(|next| (first, next));
-        [(first, 0)].into_iter().chain(behind).collect()
+        shown_before(first, mended.map(|record| record.expected().refusal))
     }
 
     /// The call without the fault that it is refused for: for a chip that isn't
@@ -328,93 +327,6 @@ fn clear_unused(chip: u8, event: &mut Event) {
         }
     }
 }
-
-pub static TABLES: [&Table; 4] = [&EVENTS, &SAVES, &RESTORES, &CURRENTS];
-
-/// Event called by itself: 21, 25, 14, 15, then 5 where the chip lacks the kind,
-/// then 1 to 4.
-pub static EVENTS: Table = Table {
-    title: "events called by themselves",
-    rows: &[
-        ACCEPTED,
-        row(Refusal::Selector, "selector over 3"),
-        row(Refusal::Address, "overlay or control address"),
-        row(Refusal::Direction, "direction"),
-        row(Refusal::UndefinedBits, "undefined bits of a tick or a load"),
-        row(Refusal::NotOnChip, "an event that the chip doesn't have"),
-        row(Refusal::Kind, "kind over the highest"),
-        row(Refusal::UnusedByte, "unused operand byte"),
-        row(Refusal::SnapshotChip, "state's chip not built"),
-        row(Refusal::Value, "state's value above its largest"),
-        before(Refusal::SnapshotChip, Refusal::Value),
-        before(Refusal::SnapshotChip, Refusal::Kind),
-        before(Refusal::SnapshotChip, Refusal::UnusedByte),
-        before(Refusal::SnapshotChip, Refusal::Selector),
-        before(Refusal::SnapshotChip, Refusal::Address),
-        before(Refusal::SnapshotChip, Refusal::Direction),
-        before(Refusal::SnapshotChip, Refusal::UndefinedBits),
-        before(Refusal::SnapshotChip, Refusal::NotOnChip),
-        before(Refusal::Value, Refusal::Kind),
-        before(Refusal::Value, Refusal::UnusedByte),
-        before(Refusal::Value, Refusal::Selector),
-        before(Refusal::Value, Refusal::Address),
-        before(Refusal::Value, Refusal::Direction),
-        before(Refusal::Value, Refusal::UndefinedBits),
-        before(Refusal::Value, Refusal::NotOnChip),
-        before(Refusal::Kind, Refusal::UnusedByte),
-        before(Refusal::UnusedByte, Refusal::Selector),
-        before(Refusal::UnusedByte, Refusal::Address),
-        before(Refusal::UnusedByte, Refusal::Direction),
-        before(Refusal::UnusedByte, Refusal::UndefinedBits),
-        before(Refusal::UnusedByte, Refusal::NotOnChip),
-        before(Refusal::NotOnChip, Refusal::Selector),
-        before(Refusal::NotOnChip, Refusal::Address),
-        before(Refusal::NotOnChip, Refusal::Direction),
-        before(Refusal::NotOnChip, Refusal::UndefinedBits),
-    ],
-};
-
-/// Save into a lent buffer: 21, 25, then 31.
-pub static SAVES: Table = Table {
-    title: "saves into a lent buffer",
-    rows: &[
-        ACCEPTED,
-        row(Refusal::SnapshotChip, "state's chip not built"),
-        row(Refusal::Value, "state's value above its largest"),
-        row(Refusal::EndBuffer, "buffer"),
-        before(Refusal::SnapshotChip, Refusal::Value),
-        before(Refusal::SnapshotChip, Refusal::EndBuffer),
-        before(Refusal::Value, Refusal::EndBuffer),
-    ],
-};
-
-/// Restore: 20 to 25.
-pub static RESTORES: Table = Table {
-    title: "restores",
-    rows: &[
-        ACCEPTED,
-        row(Refusal::SnapshotShort, "snapshot under 3 bytes"),
-        row(Refusal::SnapshotChip, "snapshot's chip"),
-        row(Refusal::SnapshotCount, "snapshot's count"),
-        row(Refusal::SnapshotLength, "snapshot's length"),
-        row(Refusal::Place, "place"),
-        row(Refusal::Value, "value"),
-    ],
-};
-
-/// Currents: 40, 25, then 4.
-pub static CURRENTS: Table = Table {
-    title: "currents on a state",
-    rows: &[
-        ACCEPTED,
-        row(Refusal::UndefinedBits, "tick bits"),
-        row(Refusal::Value, "state's value above its largest"),
-        row(Refusal::CurrentsChip, "another chip, built or not"),
-        before(Refusal::CurrentsChip, Refusal::Value),
-        before(Refusal::CurrentsChip, Refusal::UndefinedBits),
-        before(Refusal::Value, Refusal::UndefinedBits),
-    ],
-};
 
 #[cfg(test)]
 mod tests {

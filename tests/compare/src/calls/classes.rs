@@ -4,6 +4,7 @@
 use crate::calls::drive::Batch;
 use crate::calls::faults::{accepted, any, planted, planted_with_unused, spoil, Planted};
 use crate::calls::faults::{OF_THE_CHIP, OF_THE_FORM};
+use crate::calls::plans;
 use crate::calls::record::{Record, Whole, BUFFER_BYTES, CALLS};
 use crate::classes::scramble;
 use crate::currents::classes::codes_at_outputs;
@@ -70,15 +71,29 @@ pub const RANDOM: &[Class] = &[
         too_large_currents,
     ),
     class("calls: currents on other chips", 80, currents_elsewhere),
+    class("calls: plans on any state", 60, plans::any),
+    class(
+        "calls: plans of refused bytes, with too little room",
+        40,
+        plans::refused,
+    ),
+    class(
+        "calls: plans on values above their largest",
+        40,
+        plans::too_large,
+    ),
+    class("calls: plans on other chips", 60, plans::elsewhere),
 ];
 
 /// Records for a run without proof, which an interpreter plays too: some of each
-/// class, three sweeps, and a part of a fourth.
+/// class, three sweeps, a part of a fourth, and plans of one run. What is printed
+/// must be what the model prints, so nothing may be free in them.
 pub fn samples(random: &mut Random) -> Vec<(String, Vec<Record>)> {
     const RECORDS: usize = 8;
     let mut samples = Vec::new();
     for class in RANDOM {
-        let records = (0..RECORDS).map(|i| (class.make)(random, i)).collect();
+        let records = (0..).map(|i| (class.make)(random, i));
+        let records = records.filter(Record::is_settled).take(RECORDS).collect();
         let name = class.name.trim_start_matches("calls: ").replace(',', "");
         samples.push((name.replace(' ', "-"), records));
     }
@@ -89,6 +104,7 @@ pub fn samples(random: &mut Random) -> Vec<(String, Vec<Record>)> {
         ("every-operand-byte", every_operand_byte(random)),
         ("every-selector", every_selector(random)),
         ("every-load", every_load(random)),
+        ("plans-of-one-run", plans::single_runs(random)),
     ] {
         let parts = records.chunks(AT_A_TIME).enumerate();
         samples.extend(parts.map(|(i, part)| (format!("{name}-{i}"), part.to_vec())));
@@ -334,6 +350,14 @@ pub const SWEEPS: &[Sweep] = &[
         batches: |random| vec![Batch::whole(every_room(random))],
     },
     Sweep {
+        name: "calls: plans, every pair of neighbours",
+        batches: |random| vec![Batch::whole(plans::every_pair(random))],
+    },
+    Sweep {
+        name: "calls: plans, lengths of wanted bytes and room",
+        batches: |random| vec![Batch::whole(plans::every_length(random))],
+    },
+    Sweep {
         name: "calls: nothing behind the end is played",
         batches: ends,
     },
@@ -343,8 +367,8 @@ pub const SWEEPS: &[Sweep] = &[
     },
 ];
 
-/// A save event, which goes through every place, a save, and the currents.
-fn each_call(random: &mut Random, state: Whole) -> [Record; 3] {
+/// A save event, which goes through every place, a save, the currents and a plan.
+fn each_call(random: &mut Random, state: Whole) -> [Record; 4] {
     let event = Record::Event {
         state: state.clone(),
         event: save(),
@@ -353,9 +377,11 @@ fn each_call(random: &mut Random, state: Whole) -> [Record; 3] {
         state: state.clone(),
         operand: random.tick(CURRENTS_CHIP).operand,
     };
+    let plan = plans::of_black(random, state.clone());
     [
         event,
         currents,
+        plan,
         save_record(random, state, END_BUFFER_BYTES),
     ]
 }
@@ -538,7 +564,7 @@ fn in_pieces(random: &mut Random) -> Vec<Batch> {
 mod tests {
     //! What the classes come to, by the model alone: they need no program.
 
-    use super::{every_code_shown, RANDOM, SWEEPS};
+    use super::{every_code_shown, plans, samples, RANDOM, SWEEPS};
     use crate::calls::record::Record;
     use crate::calls::tables::TABLES;
     use crate::report::Shown;
@@ -568,6 +594,23 @@ mod tests {
             let listed: BTreeSet<Shown> = table.rows.iter().map(|row| row.shown).collect();
             assert_eq!(shown, listed, "{}", table.title);
         }
+    }
+
+    #[test]
+    fn nothing_is_free_in_the_samples_and_each_has_its_records() {
+        for (name, records) in samples(&mut Random::seeded(1)) {
+            assert!(records.iter().all(Record::is_settled), "{name}");
+            assert!(!records.is_empty(), "{name}");
+        }
+    }
+
+    #[test]
+    fn some_plans_are_free_and_some_are_not() {
+        let random = &mut Random::seeded(1);
+        // Nothing, one run, several runs, any entries, all.
+        let settled = (0..5).map(|number| plans::any(random, number).is_settled());
+        let settled: Vec<bool> = settled.collect();
+        assert_eq!(settled, [true, true, false, false, false]);
     }
 
     #[test]

@@ -11,21 +11,26 @@
 //! - 2, restore: length (2 bytes), the bytes. The refusal; the state.
 //! - 3, currents: state, a tick's 8 operand bytes. The answer and behind it the
 //!   currents, green, red, blue of pixels A to E, a space before each; the state.
+//! - 4, plan: state, length (2 bytes) and the wanted bytes, room (2 bytes), fill.
+//!   The refusal and the count of accesses; the whole buffer, as for a save.
 //!
 //! Bytes are printed as lowercase hexadecimal digits, numbers in decimal.
 
-use crate::calls::tables::{CURRENTS, EVENTS, RESTORES, SAVES};
+use crate::calls::tables::{CURRENTS, EVENTS, PLANS, RESTORES, SAVES};
+use crate::plan::{list, wanted};
 use crate::report::{shown_before, Shown, Table};
 use kit::{hexadecimal, highest_kind, kinds_not_on, largest, other_chips, place_count};
-use kit::{used_bytes, CHIPS, CURRENTS_CHIP};
-use model::{event, kind, restore, save_into, tick_currents, Event, Operand, Refusal, State};
+use kit::{rs, used_bytes, CHIPS, CURRENTS_CHIP, MOST_ACCESSES, PLAN_CHIP, WRITES_BYTES};
+use model::{event, kind, plan, restore, save_into, tick_currents};
+use model::{Event, Operand, Refusal, State, Write};
 
 /// The most records that the program plays.
 pub const MOST_RECORDS: usize = 65_536;
-/// The program's buffer: the most that a save is lent or a restore is given.
+/// The program's buffer: the most that a save or a plan is lent, and that a
+/// restore or a plan is given.
 pub const BUFFER_BYTES: usize = 4_096;
 /// A first byte that names no call ends the program. The calls are below this.
-pub const CALLS: u8 = 4;
+pub const CALLS: u8 = 5;
 
 /// A state with a part for each built chip, of which the chip byte names one,
 /// or none.
@@ -93,16 +98,63 @@ impl Whole {
 
 #[derive(Clone)]
 pub enum Record {
-    Event { state: Whole, event: Event },
-    Save { state: Whole, room: usize, fill: u8 },
-    Restore { snapshot: Vec<u8> },
-    Currents { state: Whole, operand: Operand },
+    Event {
+        state: Whole,
+        event: Event,
+    },
+    Save {
+        state: Whole,
+        room: usize,
+        fill: u8,
+    },
+    Restore {
+        snapshot: Vec<u8>,
+    },
+    Currents {
+        state: Whole,
+        operand: Operand,
+    },
+    Plan {
+        state: Whole,
+        wanted: Vec<u8>,
+        room: usize,
+        fill: u8,
+    },
 }
 
 /// What a call gives by the model: its refusal or 0, and the two lines.
 struct Expected {
     refusal: u64,
     lines: [String; 2],
+    /// The first bytes of the second line that may be others: a plan's list, which
+    /// is judged.
+    judged: usize,
+}
+
+impl Expected {
+    /// Nothing else is right.
+    fn only(refusal: u64, lines: [String; 2]) -> Expected {
+        Expected {
+            refusal,
+            lines,
+            judged: 0,
+        }
+    }
+
+    /// A plan's list or refusal, and the buffer that held the fill.
+    fn plan(planned: Result<Vec<Write>, Refusal>, fill: u8) -> Expected {
+        let refusal = number(planned.as_ref().err().copied());
+        let list = planned.unwrap_or_default();
+        let mut buffer = vec![fill; BUFFER_BYTES];
+        for (bytes, write) in buffer.chunks_exact_mut(2).zip(&list) {
+            bytes.copy_from_slice(&[write.selector, write.byte]);
+        }
+        Expected {
+            refusal,
+            lines: [format!("{refusal} {}", list.len()), hexadecimal(&buffer)],
+            judged: 2 * list.len(),
+        }
+    }
 }
 
 fn number(refusal: Option<Refusal>) -> u64 {
@@ -116,6 +168,7 @@ impl Record {
             Record::Save { .. } => "save",
             Record::Restore { .. } => "restore",
             Record::Currents { .. } => "currents",
+            Record::Plan { .. } => "plan",
         }
     }
 
@@ -134,6 +187,15 @@ impl Record {
             }
             Record::Restore { snapshot } => [&[2][..], &length(snapshot.len()), snapshot].concat(),
             Record::Currents { state, operand } => [&[3][..], &state.bytes(), operand].concat(),
+            Record::Plan {
+                state,
+                wanted,
+                room,
+                fill,
+            } => {
+                let wanted = [&length(wanted.len())[..], wanted].concat();
+                [&[4][..], &state.bytes(), &wanted, &length(*room), &[*fill]].concat()
+            }
         }
     }
 
@@ -142,43 +204,55 @@ impl Record {
             Record::Event { state, event: e } => {
                 let (answer, next) = event(&state.named(), e.kind, &e.operand);
                 let next = state.clone().with(&next);
-                Expected {
-                    refusal: answer[0].into(),
-                    lines: [hexadecimal(&answer), hexadecimal(&next.bytes())],
-                }
+                let lines = [hexadecimal(&answer), hexadecimal(&next.bytes())];
+                Expected::only(answer[0].into(), lines)
             }
             Record::Save { state, room, fill } => {
                 let mut buffer = vec![*fill; BUFFER_BYTES];
                 let saved = save_into(&state.named(), &mut buffer[..*room]);
                 let refusal = number(saved.refusal);
                 let numbers = format!("{refusal} {}", saved.length);
-                Expected {
-                    refusal,
-                    lines: [numbers, hexadecimal(&buffer)],
-                }
+                Expected::only(refusal, [numbers, hexadecimal(&buffer)])
             }
             Record::Restore { snapshot } => {
                 let restored = restore(snapshot);
                 let refusal = number(restored.refusal);
                 let state = Whole::fresh(restored.state.chip()).with(&restored.state);
-                Expected {
-                    refusal,
-                    lines: [refusal.to_string(), hexadecimal(&state.bytes())],
-                }
+                let lines = [refusal.to_string(), hexadecimal(&state.bytes())];
+                Expected::only(refusal, lines)
             }
             Record::Currents { state, operand } => {
                 let (answer, next, currents) = tick_currents(&state.named(), operand);
                 let numbers = currents.map(|current| format!(" {current}"));
                 let next = state.clone().with(&next);
-                Expected {
-                    refusal: answer[0].into(),
-                    lines: [
-                        hexadecimal(&answer) + &numbers.concat(),
-                        hexadecimal(&next.bytes()),
-                    ],
-                }
+                let first = hexadecimal(&answer) + &numbers.concat();
+                Expected::only(answer[0].into(), [first, hexadecimal(&next.bytes())])
             }
+            Record::Plan {
+                state,
+                wanted,
+                room,
+                fill,
+            } => Expected::plan(plan(&state.named(), wanted, *room), *fill),
         }
+    }
+
+    /// Whether what the model prints is all that is right: not where a plan has
+    /// several runs, whose order is free, or one of all 256 entries, which may
+    /// start at any.
+    pub fn is_settled(&self) -> bool {
+        let Record::Plan {
+            state,
+            wanted,
+            room,
+            ..
+        } = self
+        else {
+            return true;
+        };
+        let list = plan(&state.named(), wanted, *room).unwrap_or_default();
+        let runs = list.iter().filter(|write| write.selector == rs::WRITE_MODE);
+        runs.count() <= 1 && list.len() < MOST_ACCESSES
     }
 
     /// What the model prints for it.
@@ -189,7 +263,7 @@ impl Record {
 
     /// What is wrong with the two lines that the program prints, if anything.
     pub fn wrong(&self, printed: [&str; 2]) -> Option<String> {
-        let Expected { lines, .. } = self.expected();
+        let Expected { lines, judged, .. } = self.expected();
         let call = self.call();
         if printed[0] != lines[0] {
             return Some(format!(
@@ -204,17 +278,41 @@ impl Record {
                 lines[1].len()
             ));
         }
-        let (found, wanted) = (printed[1].as_bytes(), lines[1].as_bytes());
-        let at = (0..wanted.len()).find(|&at| found[at] != wanted[at])? / 2;
+        let (found, right) = (printed[1].as_bytes(), lines[1].as_bytes());
+        let (start, rest) = found.split_at(2 * judged);
+        self.wrong_bytes(rest, &right[2 * judged..], judged)
+            .or_else(|| self.wrong_list(start))
+            .map(|what| format!("{call}: {what}"))
+    }
+
+    /// The first byte that differs in these digits of the second line, which start
+    /// at this byte.
+    fn wrong_bytes(&self, found: &[u8], right: &[u8], first: usize) -> Option<String> {
+        let at = (0..right.len()).find(|&at| found[at] != right[at])? / 2;
+        let number = first + at;
         let byte = match self {
-            Record::Save { .. } => format!("byte {at} of the buffer"),
-            _ => Whole::byte_name(at),
+            Record::Save { .. } | Record::Plan { .. } => format!("byte {number} of the buffer"),
+            _ => Whole::byte_name(number),
         };
         let digits = |line: &[u8]| String::from_utf8_lossy(&line[2 * at..2 * at + 2]).into_owned();
-        let (found, wanted) = (digits(found), digits(wanted));
+        let (found, right) = (digits(found), digits(right));
         Some(format!(
-            "{call}: {byte} is {found} in the program, {wanted} in the model"
+            "{byte} is {found} in the program, {right} in the model"
         ))
+    }
+
+    /// What is wrong with a plan's list in these digits; any other call has none.
+    fn wrong_list(&self, digits: &[u8]) -> Option<String> {
+        let Record::Plan { state, wanted, .. } = self else {
+            return None;
+        };
+        if digits.is_empty() {
+            return None;
+        }
+        match bytes_of(digits) {
+            Some(list) => list::fault(&state.named(), wanted, &list),
+            None => Some("the list isn't in lowercase hexadecimal digits".into()),
+        }
     }
 
     /// What the call shows by the model: its refusal; and with it each refusal
@@ -226,8 +324,9 @@ impl Record {
     }
 
     /// The call without the fault that it is refused for: for a chip that isn't
-    /// built, with each chip that is; for one without currents, with the chip
-    /// that has them; for one without the event, with each fresh chip that has it.
+    /// built, with each chip that is; for one without currents or plans, with the
+    /// chip that has them; for one without the event, with each fresh chip that
+    /// has it.
     fn mended(&self, refusal: u64) -> Vec<Record> {
         let is = |fault: Refusal| refusal == u64::from(fault.number());
         if is(Refusal::SnapshotChip) {
@@ -235,6 +334,9 @@ impl Record {
         }
         if is(Refusal::CurrentsChip) {
             return self.on(CURRENTS_CHIP).into_iter().collect();
+        }
+        if is(Refusal::PlanChip) {
+            return self.on(PLAN_CHIP).into_iter().collect();
         }
         if is(Refusal::NotOnChip) {
             return self.on_chips_with_the_event();
@@ -249,6 +351,8 @@ impl Record {
             Record::Event { state, event } if is(Refusal::UnusedByte) => {
                 clear_unused(state.chip, event)
             }
+            Record::Plan { wanted, .. } if is(Refusal::Wanted) => wanted::mend(wanted),
+            Record::Plan { room, .. } if is(Refusal::WritesBuffer) => *room = WRITES_BYTES,
             _ => return Vec::new(),
         }
         vec![record]
@@ -279,23 +383,24 @@ impl Record {
         match self {
             Record::Event { state, .. }
             | Record::Save { state, .. }
-            | Record::Currents { state, .. } => Some(state),
+            | Record::Currents { state, .. }
+            | Record::Plan { state, .. } => Some(state),
             Record::Restore { .. } => None,
         }
     }
 
-    /// What can be set to 0 in it: a state's parts, and the operand.
+    /// What can be set to 0 in it: a state's parts, and the operand or the wanted
+    /// bytes.
     pub fn clearable(&mut self) -> Vec<&mut [u8]> {
-        let (state, operand) = match self {
-            Record::Event { state, event } => (state, Some(&mut event.operand)),
+        let (state, more) = match self {
+            Record::Event { state, event } => (state, Some(&mut event.operand[..])),
             Record::Save { state, .. } => (state, None),
-            Record::Currents { state, operand } => (state, Some(operand)),
+            Record::Currents { state, operand } => (state, Some(&mut operand[..])),
+            Record::Plan { state, wanted, .. } => (state, Some(&mut wanted[..])),
             Record::Restore { .. } => return Vec::new(),
         };
         let parts = state.parts.iter_mut().map(Vec::as_mut_slice);
-        parts
-            .chain(operand.map(|operand| &mut operand[..]))
-            .collect()
+        parts.chain(more).collect()
     }
 
     /// What must be shown by this sort of call.
@@ -305,8 +410,21 @@ impl Record {
             Record::Save { .. } => &SAVES,
             Record::Restore { .. } => &RESTORES,
             Record::Currents { .. } => &CURRENTS,
+            Record::Plan { .. } => &PLANS,
         }
     }
+}
+
+/// The bytes of these digits, if they are such as are printed.
+fn bytes_of(digits: &[u8]) -> Option<Vec<u8>> {
+    let value = |&digit: &u8| match digit {
+        b'0'..=b'9' => Some(digit - b'0'),
+        b'a'..=b'f' => Some(digit - b'a' + 10),
+        _ => None,
+    };
+    let values: Vec<u8> = digits.iter().map(value).collect::<Option<_>>()?;
+    let pairs = values.chunks_exact(2);
+    Some(pairs.map(|pair| 16 * pair[0] + pair[1]).collect())
 }
 
 /// Values above their largest become their largest, in the named part.

@@ -3,7 +3,7 @@
 use crate::report::{before, row, Table, ACCEPTED};
 use model::Refusal;
 
-pub static TABLES: [&Table; 4] = [&EVENTS, &SAVES, &RESTORES, &CURRENTS];
+pub static TABLES: [&Table; 5] = [&EVENTS, &SAVES, &RESTORES, &CURRENTS, &PLANS];
 
 /// Event called by itself: 21, 25, 14, 15, then 5 where the chip lacks the kind,
 /// then 1 to 4.
@@ -87,5 +87,23 @@ pub static CURRENTS: Table = Table {
         before(Refusal::CurrentsChip, Refusal::Value),
         before(Refusal::CurrentsChip, Refusal::UndefinedBits),
         before(Refusal::Value, Refusal::UndefinedBits),
+    ],
+};
+
+/// Plans: 41, 25, 42, then 43.
+pub static PLANS: Table = Table {
+    title: "plans on a state",
+    rows: &[
+        ACCEPTED,
+        row(Refusal::Value, "state's value above its largest"),
+        row(Refusal::PlanChip, "another chip, built or not"),
+        row(Refusal::Wanted, "wanted bytes"),
+        row(Refusal::WritesBuffer, "buffer"),
+        before(Refusal::PlanChip, Refusal::Value),
+        before(Refusal::PlanChip, Refusal::Wanted),
+        before(Refusal::PlanChip, Refusal::WritesBuffer),
+        before(Refusal::Value, Refusal::Wanted),
+        before(Refusal::Value, Refusal::WritesBuffer),
+        before(Refusal::Wanted, Refusal::WritesBuffer),
     ],
 };

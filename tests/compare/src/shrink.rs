@@ -197,10 +197,10 @@ pub fn clear_runs<C: Clone>(
     let mut run = len;
     while run > 0 {
         for start in (0..len).step_by(run) {
-            let mut candidate = best.clone();
-            let bytes = &mut part(&mut candidate)[start..len.min(start + run)];
-            if bytes.iter().any(|&byte| byte != 0) {
-                bytes.fill(0);
+            let numbers = start..len.min(start + run);
+            if nonzero_bytes(&part(best)[numbers.clone()]) > 0 {
+                let mut candidate = best.clone();
+                part(&mut candidate)[numbers].fill(0);
                 attempt(candidate, best);
             }
         }

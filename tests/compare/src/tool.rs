@@ -71,6 +71,11 @@ impl Tool {
         }
     }
 
+    /// What a file of the folder holds.
+    pub fn holds(&self, path: &str) -> Result<Vec<u8>, String> {
+        fs::read(path).map_err(|fault| format!("{path}: {fault}"))
+    }
+
     /// The tool with these words and this standard input.
     pub fn on(&self, words: &[&str], input: &[u8]) -> Result<Played, String> {
         self.on_pieces(words, input, WHOLE)

@@ -1,6 +1,6 @@
-//! Drives the command line tool with seeded random logs, snapshots and texts,
-//! right and damaged, and holds what it prints and how it ends to the second
-//! model.
+//! Drives the command line tool with seeded random logs, snapshots, texts and
+//! wanted colours, right and damaged, and holds what it prints and how it ends to
+//! the second model.
 //!
 //! tool [--seed S] [--inputs N] PATH
 //!

@@ -6,11 +6,12 @@ use crate::tool::classes::{ASSEMBLED, LONG_LOG, LONG_SNAPSHOT, NOT_UNDERSTOOD};
 use crate::tool::classes::{CURRENTS_BLANKED, CURRENTS_FIVE, CURRENTS_FOUR};
 use crate::tool::classes::{LISTED_CHIPS, LISTED_EMPTY, LISTED_LOADS, LISTED_MOST};
 use crate::tool::classes::{LISTED_PIECES, LISTED_VERTICALS, SHOWN_CHIPS, SHOWN_DIFFERENT};
+use crate::tool::classes::{PLAN_ACROSS, PLAN_ALL, PLAN_EMPTY, PLAN_RUNS};
 use crate::tool::classes::{RUN_BLANKED, RUN_CHIPS, RUN_PAINTED, RUN_PIXEL_BITS, RUN_TICK};
 use crate::tool::input::{Input, Sort};
-use crate::tool::modelled::{self, refusal_of_log, refusal_of_snapshot, Outcome, Run};
-use crate::tool::{printed, Tool};
-use kit::{is_tick, CHIPS, MOST_EVENTS};
+use crate::tool::modelled::{self, refusal_of_log, refusal_of_snapshot, Outcome, Plan, Run};
+use crate::tool::{printed, Played, Tool};
+use kit::{is_tick, CHIPS, MOST_EVENTS, WANTED_ENTRIES};
 use model::{kind, Event, Operand};
 
 /// What an input that was right showed, for the counts.
@@ -333,4 +334,91 @@ pub fn fed(tool: &Tool, input: &Input) -> Checked {
         parts,
         refusals: vec![refusal],
     })
+}
+
+// ---- plan
+
+/// What the file for the log holds before: a refused plan leaves it so.
+const BEFORE: &[u8] = b"before";
+
+/// The log that `plan` makes and what it prints are those of the fewest writes to
+/// the wanted colours; or it refuses the snapshot or the wanted colours.
+pub fn planned(tool: &Tool, input: &Input) -> Checked {
+    let (snapshot, wanted) = (input.bytes(Sort::Snapshot), input.bytes(Sort::Wanted));
+    let file = tool.file("snapshot", snapshot)?;
+    let target = tool.file("planned", BEFORE)?;
+    let plan = tool.on(&["plan", "--log", &target, &file, "-"], wanted)?;
+    let log = tool.holds(&target)?;
+    let right = match modelled::plan(snapshot, wanted) {
+        Ok(right) => right,
+        Err(refusal) => {
+            plan.refused(refusal)?;
+            plan.needs(log == BEFORE, "should make no log")?;
+            return Ok(Seen {
+                refusals: vec![refusal],
+                ..Seen::default()
+            });
+        }
+    };
+    text_of_plan(tool, &plan, &log, &right)?;
+    let play = Play {
+        words: &["run", "--end", "-", &file, &target],
+        input: &[],
+        snapshot,
+        log: &log,
+    };
+    run_of_plan(tool, &plan, &play, &right, wanted)?;
+    Ok(Seen {
+        parts: parts_of_plan(&right),
+        refusals: vec![0],
+    })
+}
+
+/// The log, run, makes as few writes as there can be, of which none is refused,
+/// and ends in the wanted colours.
+fn run_of_plan(
+    tool: &Tool,
+    plan: &Played,
+    play: &Play,
+    right: &Plan,
+    wanted: &[u8],
+) -> Result<(), String> {
+    let Ok(run) = played(tool, play)? else {
+        return Err(plan.fault("should make a log that is accepted"));
+    };
+    plan.needs(run.events.len() == right.writes, "should be the fewest")?;
+    let accepted = run.answered().all(|(_, answer)| answer[0] == 0);
+    plan.needs(accepted, "should have no write that is refused")?;
+    let end = model::restore(&run.end).state.places();
+    plan.needs(end.starts_with(wanted), "should leave the wanted colours")
+}
+
+/// The text is what `list` prints of the log and a line of sums, and is the log's
+/// when it is assembled.
+fn text_of_plan(tool: &Tool, plan: &Played, log: &[u8], right: &Plan) -> Result<(), String> {
+    let text = plan.done()?;
+    let list = tool.on(&["list", "-"], log)?;
+    let mut lines = list.lines(list.done()?)?;
+    lines.push(printed::sums_of_plan(right));
+    let same = plan.lines(text)? == lines;
+    plan.needs(same, "should print the log's list and the sums")?;
+    let assemble = tool.on(&["assemble", "-"], text)?;
+    let same = assemble.done()? == log;
+    assemble.needs(same, "should give the log of the plan")
+}
+
+fn parts_of_plan(plan: &Plan) -> Vec<&'static str> {
+    let mut parts = Vec::new();
+    if plan.entries.is_empty() {
+        parts.push(PLAN_EMPTY);
+    }
+    if plan.entries.len() == WANTED_ENTRIES {
+        parts.push(PLAN_ALL);
+    } else if plan.entries.first() == Some(&0) && plan.entries.last() == Some(&255) {
+        parts.push(PLAN_ACROSS);
+    }
+    if plan.runs() > 1 {
+        parts.push(PLAN_RUNS);
+    }
+    parts
 }

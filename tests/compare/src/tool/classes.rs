@@ -71,6 +71,10 @@ pub const SHOWN_DIFFERENT: &str = "tool: show and diff: places that differ";
 pub const CURRENTS_FOUR: &str = "tool: currents: four pixels";
 pub const CURRENTS_FIVE: &str = "tool: currents: five pixels";
 pub const CURRENTS_BLANKED: &str = "tool: currents: blanked";
+pub const PLAN_EMPTY: &str = "tool: plan: nothing differs";
+pub const PLAN_ALL: &str = "tool: plan: all 256 entries differ";
+pub const PLAN_ACROSS: &str = "tool: plan: a run across 255 and 0";
+pub const PLAN_RUNS: &str = "tool: plan: several runs";
 
 pub const CLASSES: &[Class] = &[
     Class {
@@ -172,6 +176,15 @@ pub const CLASSES: &[Class] = &[
         make: make::snapshot_and_tick,
         check: check::fed,
     },
+    Class {
+        name: "tool: plan",
+        share: 10,
+        fewest: 64,
+        parts: &[PLAN_EMPTY, PLAN_ALL, PLAN_ACROSS, PLAN_RUNS],
+        table: Some(&PLANS),
+        make: make::snapshot_and_wanted,
+        check: check::planned,
+    },
 ];
 
 static LISTED: Table = Table {
@@ -259,5 +272,20 @@ static CURRENTS: Table = Table {
         row(Refusal::Place, "place"),
         row(Refusal::Value, "value"),
         row(Refusal::CurrentsChip, "another chip"),
+    ],
+};
+
+static PLANS: Table = Table {
+    title: "the tool's plans",
+    rows: &[
+        ACCEPTED,
+        row(Refusal::SnapshotShort, "snapshot under 3 bytes"),
+        row(Refusal::SnapshotChip, "snapshot's chip"),
+        row(Refusal::SnapshotCount, "snapshot's count"),
+        row(Refusal::SnapshotLength, "snapshot's length"),
+        row(Refusal::Place, "place"),
+        row(Refusal::Value, "value"),
+        row(Refusal::PlanChip, "another chip"),
+        row(Refusal::Wanted, "wanted bytes"),
     ],
 };

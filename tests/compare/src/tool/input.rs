@@ -17,6 +17,8 @@ pub enum Sort {
     Second,
     Log,
     Text,
+    /// The wanted colours of a plan.
+    Wanted,
 }
 
 /// An input: its byte strings, at most one of each sort.
@@ -75,6 +77,7 @@ impl Input {
                 Sort::Text => texts::shrunk(bytes, tries, &fails),
                 Sort::Log => shrunk_log(bytes, tries, &fails),
                 Sort::Snapshot | Sort::Second => shrunk_snapshot(bytes, tries, &fails),
+                Sort::Wanted => shrunk_wanted(bytes, tries, &fails),
             };
             best = best.with(*sort, bytes);
         }
@@ -92,6 +95,7 @@ impl Input {
             Sort::Second => format!("  second snapshot {}\n", shown(bytes)),
             Sort::Log => format!("  log {}\n", shown(bytes)),
             Sort::Text => format!("  text {}\n", bytes.escape_ascii()),
+            Sort::Wanted => format!("  wanted {}\n", shown(bytes)),
         };
         let mut text: String = self.parts.iter().map(described).collect();
         if self.piece != WHOLE {
@@ -131,4 +135,17 @@ fn shrunk_log(log: &[u8], tries: &mut usize, fails: &dyn Fn(&[u8]) -> bool) -> V
 fn shrunk_snapshot(bytes: &[u8], tries: &mut usize, fails: &dyn Fn(&[u8]) -> bool) -> Vec<u8> {
     let case = case(bytes.to_vec(), log_bytes(1, &[]));
     shrink::shrunk(&case, tries, &mut |case| fails(&case.snapshot)).snapshot
+}
+
+/// With fewer bytes that aren't 0.
+fn shrunk_wanted(wanted: &[u8], tries: &mut usize, fails: &dyn Fn(&[u8]) -> bool) -> Vec<u8> {
+    let size = |wanted: &Vec<u8>| shrink::nonzero_bytes(wanted);
+    let mut fails = |wanted: &Vec<u8>| fails(wanted);
+    shrink::search(
+        &wanted.to_vec(),
+        tries,
+        &mut fails,
+        size,
+        |best, attempt| shrink::clear_runs(best, attempt, |wanted| wanted),
+    )
 }

@@ -2,11 +2,12 @@
 
 use crate::damage::{damaged_log, damaged_snapshot, several_faults, two_indexed_faults};
 use crate::damage::{LOG_FAULTS, SNAPSHOT_FAULTS};
+use crate::plan::wanted::{self, differing, in_run};
 use crate::replay::very_long;
 use crate::tool::input::{Input, Sort};
 use crate::tool::{modelled, texts, Tool};
 use kit::{chip_of_round, largest, log_bytes, nonzero, place_count, snapshot_bytes};
-use kit::{table_places, vertical, Random, CHIPS, CURRENTS_CHIP};
+use kit::{table_places, vertical, Random, CHIPS, CURRENTS_CHIP, PLAN_CHIP, WANTED_ENTRIES};
 use model::{Event, MOST_EVENTS};
 
 /// An input, or why the tool gives nothing to make it of.
@@ -221,4 +222,45 @@ pub fn snapshot_and_tick(_: &Tool, random: &mut Random, number: usize) -> Made {
     };
     let log = log_bytes(CURRENTS_CHIP, &[tick]);
     Ok(Input::of(Sort::Snapshot, snapshot).and(Sort::Log, log))
+}
+
+// ---- plans
+
+/// A snapshot of an HD153129 and wanted colours. Of 8 snapshots one has a fault and
+/// one is another chip's; of 8 tables one is refused. In the others nothing
+/// differs, all entries do, two about the end, runs, and any.
+pub fn snapshot_and_wanted(_: &Tool, random: &mut Random, number: usize) -> Made {
+    let (round, turn) = (number / 8, number % 8);
+    let places = some_places(random, PLAN_CHIP);
+    let snapshot = match turn {
+        0 => {
+            let fault = SNAPSHOT_FAULTS[round % SNAPSHOT_FAULTS.len()];
+            damaged_snapshot(random, PLAN_CHIP, fault)
+        }
+        1 => {
+            let other = random.other_chip(PLAN_CHIP);
+            random.snapshot(other)
+        }
+        _ => snapshot_bytes(PLAN_CHIP, &nonzero(&places)),
+    };
+    let differs = match turn {
+        3 => vec![false; WANTED_ENTRIES],
+        4 => vec![true; WANTED_ENTRIES],
+        5 => (0..WANTED_ENTRIES).map(|e| in_run(e, 255, 2)).collect(),
+        6 => wanted::runs_and_gaps(random),
+        _ => wanted::at_random(random),
+    };
+    let mut table = differing(random, &places, |entry| differs[entry]);
+    if turn == 2 || (turn < 2 && random.one_in(2)) {
+        spoil_table(random, &mut table);
+    }
+    Ok(Input::of(Sort::Snapshot, snapshot).and(Sort::Wanted, table))
+}
+
+/// Now and then much longer than any buffer.
+fn spoil_table(random: &mut Random, table: &mut Vec<u8>) {
+    match random.below(4) {
+        0 => table.resize(random.pick(&[4_096, 70_000, 2_000_000]), 0),
+        _ => wanted::spoil(random, table),
+    }
 }

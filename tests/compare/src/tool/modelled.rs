@@ -1,6 +1,6 @@
 //! What the model makes of the tool's inputs.
 
-use kit::{snapshot_bytes, CHIPS};
+use kit::{snapshot_bytes, CHIPS, WRITES_BYTES};
 use model::{Answer, Event, Operand, ANSWER_BYTES, END_BUFFER_BYTES, MOST_EVENTS};
 
 /// An accepted run.
@@ -78,4 +78,33 @@ pub fn currents(snapshot: &[u8], operand: &Operand) -> Result<Currents, u64> {
         0 => Ok(Currents { answer, currents }),
         refusal => Err(refusal.into()),
     }
+}
+
+/// What a plan must come to.
+pub struct Plan {
+    pub writes: usize,
+    /// The entries that differ.
+    pub entries: Vec<usize>,
+}
+
+impl Plan {
+    /// Each run starts with an address, and an entry has three colours.
+    pub fn runs(&self) -> usize {
+        self.writes - 3 * self.entries.len()
+    }
+}
+
+/// The fewest writes to the wanted colours, or the refusal.
+pub fn plan(snapshot: &[u8], wanted: &[u8]) -> Result<Plan, u64> {
+    let refusal = model::plan_into(snapshot, wanted, &mut [0; WRITES_BYTES]) >> 16;
+    if refusal != 0 {
+        return Err(refusal);
+    }
+    let state = model::restore(snapshot).state;
+    let writes = model::fewest_accesses(&state, wanted).expect("an accepted plan");
+    let places = state.places();
+    let both = places.chunks(3).zip(wanted.chunks(3)).enumerate();
+    let differ = both.filter(|(_, (is, wanted))| is != wanted);
+    let entries = differ.map(|(entry, _)| entry).collect();
+    Ok(Plan { writes, entries })
 }

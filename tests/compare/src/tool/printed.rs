@@ -1,7 +1,7 @@
 //! The lines that the tool must print, by the model's answers and the kit's
 //! places.
 
-use crate::tool::modelled::{Currents, Run};
+use crate::tool::modelled::{Currents, Plan, Run};
 use kit::{entry_places, is_tick, p1, p3, table_places};
 use model::{kind, Event};
 
@@ -229,4 +229,10 @@ pub fn of_currents(right: &Currents) -> Vec<Line> {
         )));
     }
     lines
+}
+
+/// The last line of what `plan` prints.
+pub fn sums_of_plan(plan: &Plan) -> String {
+    let (writes, entries, runs) = (plan.writes, plan.entries.len(), plan.runs());
+    format!("# {writes} writes: {entries} entries in {runs} runs")
 }

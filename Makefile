@@ -112,8 +112,13 @@ target/bench/bench: bench/bench.c bench/plain.c bench/plain.h include/palette.h 
 	@mkdir -p $(@D)
 	$(CC) $(WARNINGS) -O3 -falign-functions=64 -Iinclude -Ibench bench/bench.c bench/plain.c $(LIBPALETTE) $(LDLIBS) -o $@
 
-bench: target/bench/bench ## time the library beside a plain C program
+target/bench/plans: bench/plans.c bench/plain.c bench/plain.h include/palette.h $(LIBPALETTE)
+	@mkdir -p $(@D)
+	$(CC) $(WARNINGS) -O3 -falign-functions=64 -Iinclude -Ibench bench/plans.c bench/plain.c $(LIBPALETTE) $(LDLIBS) -o $@
+
+bench: target/bench/bench target/bench/plans ## time the library beside a plain C program
 	target/bench/bench
+	target/bench/plans
 
 install: $(LIBPALETTE) $(REPLAY) $(TOOL) ## header, library, programs, manual page and pkg-config file, to PREFIX=..
 	install -d $(DESTDIR)$(PREFIX)/include $(DESTDIR)$(PREFIX)/lib/pkgconfig $(DESTDIR)$(PREFIX)/bin $(DESTDIR)$(PREFIX)/share/man/man1

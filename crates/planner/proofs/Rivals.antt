@@ -2,7 +2,7 @@
 -- What the table still asks for falls by at most one with each access: three for each entry that differs, and one for each run that doesn't start at the address register; the red and green of a triple under way are paid for in advance.
 use Prim.Native.Nat.{ℕ, _+_, _*_, _≤_, _<_}
 use mathlib.Core.Path.{_≡_, _∙_, refl, sym, ap}
-use mathlib.Core.Bool.{Bool, true, false, not, cond, _&&_, false≢true, true≢false}
+use mathlib.Core.Bool.{Bool, true, false, not, cond, _&&_, and-false, false≢true, true≢false}
 use mathlib.Core.List.{List, [], _∷_}
 use native.Mathlib.Omega.{arith}
 use native.Mathlib.Nat.{add-zero}
@@ -40,10 +40,6 @@ abbrev paid : ℕ → ℕ → ℕ
 paid direction p = cond (eqb direction 1) 0 p
 
 module _ (d : ℕ → Bool) where
-  and-false : (x : Bool) → (x && false) ≡ false
-  and-false true = refl
-  and-false false = refl
-
   asks-in : (direction a e : ℕ) → startsRun d e ≡ true → (e ≡ a → ⊥) → asks d direction a e ≡ true
   unfolding asks
   asks-in direction a e run n = simp (run, ne-eqb e a n, and-false (not (eqb direction 1)))

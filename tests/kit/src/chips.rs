@@ -48,7 +48,13 @@ pub mod p1 {
     pub const COMMAND: usize = 786;
     pub const TEST: usize = 787;
     pub const BLINK_COUNT: usize = 788;
-    pub const COUNT: usize = 789;
+    /// The last pixel's codes.
+    pub const LAST_RED: usize = 789;
+    pub const LAST_GREEN: usize = 790;
+    pub const LAST_BLUE: usize = 791;
+    pub const COUNT: usize = 792;
+    /// The count before document 02's Note 7.
+    pub const OLDER_COUNT: usize = LAST_RED;
 }
 
 /// Place numbers of chip 2.
@@ -139,7 +145,8 @@ pub fn entry_places(chip: u8) -> usize {
 /// The places that a tick moves.
 pub fn places_that_ticks_move(chip: u8) -> Range<usize> {
     match chip {
-        1 | 2 => 0..0,
+        1 => p1::LAST_RED..p1::COUNT,
+        2 => 0..0,
         3 => p3::COLOUR_BEFORE..p3::COUNT,
         _ => no_such_chip(chip),
     }

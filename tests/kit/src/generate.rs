@@ -12,7 +12,13 @@ use model::{Event, State};
 const TABLE_LOADS: usize = 2 * p3::REGISTERS;
 
 /// Registers of the TLC34058 that the display looks at, and its test register.
-const CONTROL_ADDRESSES: [u8; 4] = [4, 5, 6, 7];
+const CONTROL_ADDRESSES: [u8; 4] = [4, 5, 6, TEST_ADDRESS];
+
+/// The TLC34058's test register.
+const TEST_ADDRESS: u8 = 7;
+
+/// What it shows halves of codes with: red, green, blue, the high halves first.
+const TEST_SELECTIONS: [u8; 6] = [0x01, 0x02, 0x04, 0x09, 0x0A, 0x0C];
 
 impl Random {
     /// A built chip.
@@ -77,8 +83,8 @@ impl Random {
         }
     }
 
-    /// Often, registers with which ticks show colours, and counts at the edges
-    /// of the blink parts.
+    /// Often, registers with which ticks show colours, counts at the edges of the
+    /// blink parts, and a last pixel.
     fn lively_registers(&mut self, chip: u8, places: &mut [u8]) {
         let lively = self.one_in(2);
         match chip {
@@ -87,6 +93,9 @@ impl Random {
                     places[p1::READ_MASK] = self.pick(&[255, 255, 0x3C]);
                     places[p1::BLINK_MASK] = self.byte();
                     places[p1::COMMAND] = self.pick(&[0x40, 0xC3, 0x47, 0xFF, 0x7F, 0xDF]);
+                }
+                if self.one_in(3) {
+                    self.last_pixel(places);
                 }
                 if self.one_in(2) {
                     let edges = [0, 15, 16, 31, 32, 47, 48, 63, 64, 126, 127];
@@ -105,6 +114,23 @@ impl Random {
                 }
             }
             _ => no_such_chip(chip),
+        }
+    }
+
+    /// Chip 1: codes of a last pixel, and a test register that may show one.
+    fn last_pixel(&mut self, places: &mut [u8]) {
+        places[p1::TEST] = self.test_byte();
+        for code in &mut places[p1::LAST_RED..p1::COUNT] {
+            *code = self.byte();
+        }
+    }
+
+    /// A byte for chip 1's test register, most often one that shows a code.
+    fn test_byte(&mut self) -> u8 {
+        if self.one_in(4) {
+            self.byte()
+        } else {
+            self.byte() & 0xF0 | self.pick(&TEST_SELECTIONS)
         }
     }
 
@@ -207,7 +233,7 @@ impl Random {
     }
 
     /// One access, or some that belong together: a whole colour, read or
-    /// written, a register that the display looks at, or loads.
+    /// written, a register that the display looks at, the test register, or loads.
     pub fn burst(&mut self, chip: u8) -> Vec<Event> {
         match chip {
             1 | 2 => self.port_burst(chip),
@@ -293,14 +319,24 @@ impl Random {
 
     fn register_write(&mut self, chip: u8) -> Vec<Event> {
         match chip {
-            1 => {
-                let address = self.pick(&CONTROL_ADDRESSES);
-                let byte = self.pick(&[0x00, 0x40, 0xC3, 0x0F, 0xFF, 0x70]);
-                vec![write(c::ADDRESS, address), write(c::CONTROL, byte)]
-            }
+            1 => match self.pick(&CONTROL_ADDRESSES) {
+                TEST_ADDRESS => self.test_register_use(),
+                address => {
+                    let byte = self.pick(&[0x00, 0x40, 0xC3, 0x0F, 0xFF, 0x70]);
+                    vec![write(c::ADDRESS, address), write(c::CONTROL, byte)]
+                }
+            },
             2 => vec![write(rs::PIXEL_MASK, self.byte())],
             _ => no_such_chip(chip),
         }
+    }
+
+    /// A write at 07h and reads there.
+    fn test_register_use(&mut self) -> Vec<Event> {
+        let byte = self.test_byte();
+        let mut burst = vec![write(c::ADDRESS, TEST_ADDRESS), write(c::CONTROL, byte)];
+        burst.extend((0..=self.below(3)).map(|_| read(c::CONTROL)));
+        burst
     }
 
     /// A tick with no undefined bit.

@@ -2,10 +2,15 @@
 //! from documents 01 and 02 and, of the calls for currents and plans, from the C
 //! header.
 
+use crate::chips::p1;
+
 /// An event's answer.
 pub const ANSWER_BYTES: usize = 18;
-/// The end buffer needs this much, and so does a buffer that is saved into.
-pub const END_BYTES: usize = 2370;
+/// The end buffer needs this much, and so does a buffer that is saved into: chip
+/// 1's longest snapshot.
+pub const END_BYTES: usize = snapshot_length(p1::COUNT);
+/// What it needed before document 02's Note 7.
+pub const OLDER_END_BYTES: usize = snapshot_length(p1::OLDER_COUNT);
 /// The most events of a log.
 pub const MOST_EVENTS: usize = 7000;
 /// The most events of a log before document 02's Note 2.
@@ -30,3 +35,9 @@ pub const MOST_ACCESSES: usize = 769;
 /// The buffer for a plan needs this much, however short the list: selector and
 /// byte of each write.
 pub const WRITES_BYTES: usize = 2 * MOST_ACCESSES;
+
+/// The bytes of a snapshot with this many places: chip byte and count, then the
+/// number and the value of each.
+const fn snapshot_length(places: usize) -> usize {
+    3 + 3 * places
+}

@@ -22,8 +22,9 @@ pub fn free_shuffle(random: &mut Random, events: &[Event]) -> Vec<Event> {
     riffle(random, &only(events, is_access), &only(events, is_display))
 }
 
-/// A shuffle that also keeps the display events before every painting access:
-/// each stretch between painting accesses is riffled by itself.
+/// A shuffle that also keeps the display events before every painting access, or
+/// before whichever accesses are given: each stretch between them is riffled by
+/// itself.
 pub fn painting_shuffle(random: &mut Random, events: &[Event], painting: &[usize]) -> Vec<Event> {
     let mut shuffled = Vec::new();
     let mut start = 0;
@@ -53,7 +54,8 @@ pub fn with_saves(random: &mut Random, events: &[Event], often: usize) -> Vec<Ev
     saved
 }
 
-/// For each painting access, the events of one sort that stand before it.
+/// For each painting access, or each of whichever are given, the events of one
+/// sort that stand before it.
 pub fn before_painting(events: &[Event], painting: &[usize], sort: Sort) -> Vec<usize> {
     let mut counts = Vec::new();
     let (mut start, mut count) = (0, 0);
@@ -63,4 +65,12 @@ pub fn before_painting(events: &[Event], painting: &[usize], sort: Sort) -> Vec<
         start = index;
     }
     counts
+}
+
+/// Two lists of indices taken together, such as painting accesses and 07h reads.
+pub fn taken_together(one: &[usize], two: &[usize]) -> Vec<usize> {
+    let mut both = [one, two].concat();
+    both.sort_unstable();
+    both.dedup();
+    both
 }

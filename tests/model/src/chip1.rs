@@ -1,5 +1,5 @@
 //! Chip 1, the TLC34058: its MPU port (Tables 1 to 4), colour selection
-//! (Table 5) and command register (Table 7).
+//! (Table 5), command register (Table 7) and test register (Table 8).
 
 use crate::event::{Answer, Operand, ANSWER_BYTES};
 use crate::painting::Painted;
@@ -10,7 +10,7 @@ const PALETTE_ENTRIES: usize = 256;
 /// Palette RAM words and the four overlay registers behind them.
 const ENTRIES: usize = PALETTE_ENTRIES + 4;
 /// Places of chip 1.
-pub(crate) const PLACES: usize = 789;
+pub(crate) const PLACES: usize = PLACE_LAST_CODES + 3;
 
 const PLACE_ADDR: usize = 780;
 const PLACE_ADDR_AB: usize = 781;
@@ -21,11 +21,19 @@ const PLACE_BLINK_MASK: usize = 785;
 const PLACE_COMMAND: usize = 786;
 const PLACE_TEST: usize = 787;
 const PLACE_BLINK_COUNT: usize = 788;
+const PLACE_LAST_CODES: usize = 789;
 
 /// ADDRa,b counts modulo 3: red, green, blue.
 const BLUE: u8 = 2;
 /// Vertical periods after which every blink rate has come round.
 const BLINK_PERIODS: u8 = 128;
+/// The DAC inputs while BLK is low.
+const BLACK: [u8; 3] = [0; 3];
+
+/// TR0-TR2: one for each DAC input.
+const TEST_INPUTS: u8 = 0b0111;
+/// TR3: high for the four LSBs of an input, low for its four MSBs.
+const TEST_LSBS: u8 = 0b1000;
 
 /// The state of a TLC34058.
 #[derive(Clone, Debug, PartialEq, Eq)]
@@ -47,10 +55,12 @@ pub struct Chip1 {
     pub blink_mask: u8,
     /// Control register 06h, CR0 in bit 0.
     pub command: u8,
-    /// Control register 07h.
+    /// Control register 07h, all bits as written.
     pub test: u8,
     /// Vertical periods counted so far, 0 to 127.
     pub blink_count: u8,
+    /// Red, green, blue of the last pixel shown: what the DAC inputs have.
+    pub last_codes: [u8; 3],
 }
 
 /// What C1, C0 and ADDR0-7 together select (Table 4).
@@ -102,6 +112,7 @@ impl Chip1 {
             command: 0,
             test: 0,
             blink_count: 0,
+            last_codes: BLACK,
         }
     }
 
@@ -133,6 +144,7 @@ impl Chip1 {
                 self.next_component();
                 Ok(data)
             }
+            Selected::Control(ControlRegister::Test) => Ok(self.read_test()),
             Selected::Control(register) => Ok(*self.control(register)),
         }
     }
@@ -174,6 +186,28 @@ impl Chip1 {
         }
     }
 
+    /// Table 8: D0-D3 give TR0-TR3, D4-D7 half of a DAC input.
+    fn read_test(&self) -> u8 {
+        self.test & (TEST_INPUTS | TEST_LSBS) | self.half_of_input() << 4
+    }
+
+    /// The half that TR3 tells of the input that TR0, TR1 or TR2 alone selects; 0
+    /// if none of them does, or more than one.
+    fn half_of_input(&self) -> u8 {
+        let [red, green, blue] = self.last_codes;
+        let input = match self.test & TEST_INPUTS {
+            0b001 => red,
+            0b010 => green,
+            0b100 => blue,
+            _ => return 0,
+        };
+        if self.test & TEST_LSBS != 0 {
+            input & 0x0F
+        } else {
+            input >> 4
+        }
+    }
+
     /// Red and green wait in RREG and GREG; the blue write cycle adjoins the
     /// three bytes and writes the whole word.
     fn write_colour(&mut self, entry: usize, data: u8) {
@@ -200,8 +234,9 @@ impl Chip1 {
         self.blink_count = (self.blink_count + 1) % BLINK_PERIODS;
     }
 
-    /// One load of four or five pixels. The state doesn't change.
-    pub(crate) fn tick(&self, operand: &Operand) -> Result<Answer, Refusal> {
+    /// One load of four or five pixels, A first. The last one's codes stay at the
+    /// DAC inputs.
+    pub(crate) fn tick(&mut self, operand: &Operand) -> Result<Answer, Refusal> {
         let [_, _, _, _, _, ol0, ol1, levels] = *operand;
         if ol0 >> 5 != 0 || ol1 >> 5 != 0 || levels >> 2 != 0 {
             return Err(Refusal::UndefinedBits);
@@ -220,6 +255,7 @@ impl Chip1 {
             };
             let codes = self.dac_inputs(&input, blk_high);
             answer[3 + 3 * i..6 + 3 * i].copy_from_slice(&codes);
+            self.last_codes = codes;
         }
         Ok(answer)
     }
@@ -229,7 +265,7 @@ impl Chip1 {
         if blk_high {
             self.colours[self.colour_selection(input)]
         } else {
-            [0; 3]
+            BLACK
         }
     }
 
@@ -277,16 +313,25 @@ impl Chip1 {
         }
     }
 
+    /// Whether a read is of the test register. A refused one selects nothing.
+    pub(crate) fn reads_test(&self, selector: u8) -> bool {
+        matches!(
+            self.select(selector),
+            Ok(Selected::Control(ControlRegister::Test))
+        )
+    }
+
     /// The list of places.
     pub(crate) fn places(&self) -> Vec<u8> {
         let mut places = self.colours.concat();
         places.extend([self.addr, self.addr_ab, self.rreg, self.greg]);
         places.extend([self.read_mask, self.blink_mask, self.command, self.test]);
         places.push(self.blink_count);
+        places.extend(self.last_codes);
         places
     }
 
-    /// The chip with these places. There must be 789 of them.
+    /// The chip with these places. There must be [`PLACES`] of them.
     pub(crate) fn from_places(places: &[u8]) -> Chip1 {
         let mut chip = Chip1::fresh();
         for (entry, colour) in chip.colours.iter_mut().enumerate() {
@@ -301,6 +346,7 @@ impl Chip1 {
         chip.command = places[PLACE_COMMAND];
         chip.test = places[PLACE_TEST];
         chip.blink_count = places[PLACE_BLINK_COUNT];
+        chip.last_codes.copy_from_slice(&places[PLACE_LAST_CODES..]);
         chip
     }
 }

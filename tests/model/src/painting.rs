@@ -1,5 +1,6 @@
 //! What an access paints: the definition that the answers of writes and the
-//! list of a log's painting accesses rest on.
+//! list of a log's painting accesses rest on. And which reads look at what was
+//! shown.
 
 use crate::event::{event, is_access, kind, Operand};
 use crate::log::Event;
@@ -40,22 +41,46 @@ pub(crate) fn painted(state: &State, kind: u8, operand: &Operand) -> Painted {
 /// the snapshot and the earlier accesses alone: display events and saves are
 /// passed over.
 pub fn painting_accesses(snapshot: &[u8], log: &[u8]) -> Result<Vec<usize>, Refusal> {
+    accesses_that(would_paint, snapshot, log)
+}
+
+/// The indices of the 07h reads of a log started from a snapshot: the unrefused
+/// reads of chip 1's test register, whatever they select. Refused and reckoned as
+/// painting accesses are.
+pub fn test_register_reads(snapshot: &[u8], log: &[u8]) -> Result<Vec<usize>, Refusal> {
+    accesses_that(would_read_test, snapshot, log)
+}
+
+/// The indices of the unrefused accesses that are of a class.
+fn accesses_that(
+    of_class: fn(&State, &Event) -> bool,
+    snapshot: &[u8],
+    log: &[u8],
+) -> Result<Vec<usize>, Refusal> {
     let (mut state, log) = accepted_pair(snapshot, log)?;
-    let mut painting = Vec::new();
+    let mut indices = Vec::new();
     for (index, entry) in log.events.iter().enumerate() {
         if !is_access(entry.kind) {
             continue;
         }
         let (answer, next) = event(&state, entry.kind, &entry.operand);
-        if answer[0] == 0 && would_paint(&state, entry) {
-            painting.push(index);
+        if answer[0] == 0 && of_class(&state, entry) {
+            indices.push(index);
         }
         state = next;
     }
-    Ok(painting)
+    Ok(indices)
 }
 
 /// Whether an access paints if it isn't refused.
 fn would_paint(state: &State, access: &Event) -> bool {
     painted(state, access.kind, &access.operand) != Painted::Nothing
+}
+
+/// Whether an access is a 07h read if it isn't refused.
+fn would_read_test(state: &State, access: &Event) -> bool {
+    match state {
+        State::Chip1(chip) => access.kind == kind::READ && chip.reads_test(access.operand[0]),
+        State::Chip2(_) | State::Chip3(_) | State::NotBuilt(_) => false,
+    }
 }

@@ -1,6 +1,7 @@
 //! The refusal table of document 01, refusal 12 with the limit of document 02's
-//! Note 2, refusals 4, 5 and 14 with what Note 3 adds to them, and the refusals
-//! that Note 1 adds for the currents and Note 6 for the fewest writes.
+//! Note 2, refusals 4, 5 and 14 with what Note 3 adds to them, refusal 31 with the
+//! size of Note 7, and the refusals that Note 1 adds for the currents and Note 6
+//! for the fewest writes.
 
 /// A refusal, with the number that its document gives it, or the C header for
 /// the currents' call on byte strings.
@@ -48,7 +49,7 @@ pub enum Refusal {
     TwoChips = 26,
     /// Answer buffer under 18n bytes; under 48 for an answer and its currents.
     AnswerBuffer = 30,
-    /// End buffer under 2,370 bytes.
+    /// End buffer under [`END_BUFFER_BYTES`](crate::END_BUFFER_BYTES).
     EndBuffer = 31,
     /// Currents asked for a chip other than 1.
     CurrentsChip = 40,

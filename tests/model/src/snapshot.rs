@@ -1,12 +1,13 @@
 //! Snapshots: save, save into a lent buffer, restore.
 
 use crate::built::{named, Built};
+use crate::chip1;
 use crate::refusal::Refusal;
 use crate::state::State;
 
-/// The longest snapshot (chip 1 with no place 0): 3 + 3 x 789. Every buffer
-/// for a snapshot must have this size, whatever it will hold (31).
-pub const END_BUFFER_BYTES: usize = 2370;
+/// The longest snapshot (chip 1 with no place 0). Every buffer for a snapshot
+/// must have this size, whatever it will hold (31).
+pub const END_BUFFER_BYTES: usize = 3 + 3 * chip1::PLACES;
 
 /// What a restore gives, as a call of its own.
 #[derive(Clone, Debug, PartialEq, Eq)]

@@ -49,14 +49,17 @@ fn chip_1_triples_at_the_edge_addresses() {
 
 #[test]
 fn chip_1_control_accesses_at_the_edge_addresses() {
+    // Address, refusal, place written with 99h, byte read then. The test register
+    // gives its low four bits, and half of black.
     let cases = [
-        (0x03, 2, None),
-        (0x04, 0, Some(p1::READ_MASK)),
-        (0x07, 0, Some(p1::TEST)),
-        (0x08, 2, None),
-        (0xFF, 2, None),
+        (0x03, 2, None, 0),
+        (0x04, 0, Some(p1::READ_MASK), 0x99),
+        (0x06, 0, Some(p1::COMMAND), 0x99),
+        (0x07, 0, Some(p1::TEST), 0x09),
+        (0x08, 2, None, 0),
+        (0xFF, 2, None, 0),
     ];
-    for (address, refusal, place) in cases {
+    for (address, refusal, place, byte) in cases {
         for position in 0..=2 {
             let mut chip =
                 Bench::with_places(1, &[(p1::ADDRESS, address), (p1::POSITION, position)]);
@@ -66,7 +69,6 @@ fn chip_1_control_accesses_at_the_edge_addresses() {
                 expected[place] = 0x99;
             }
             assert_eq!(chip.state.places(), expected);
-            let byte = if refusal == 0 { 0x99 } else { 0 };
             assert_eq!(chip.read(c::CONTROL), (refusal, byte));
             assert_eq!(chip.state.places(), expected);
         }

@@ -44,12 +44,15 @@ const WITHOUT_SYNC: [[u16; 3]; 5] = [
     [144 + 587, 144 + 1761, 144 + 1174],
 ];
 
-/// The currents of a tick that isn't refused, pixel by pixel. It must leave the
-/// state as it was.
+/// The currents of a tick that isn't refused, pixel by pixel. The next state must
+/// have its last pixel's codes and be as it was elsewhere.
 fn shown(chip: &Bench, operand: Operand) -> [[u16; 3]; 5] {
     let (answer, next, currents) = tick_currents(&chip.state, &operand);
     assert_eq!(answer[0], 0, "operand {operand:02x?}");
-    assert_eq!(next, chip.state);
+    let mut expected = chip.state.places();
+    let last = 3 * usize::from(answer[1]);
+    expected[p1::LAST_RED..].copy_from_slice(&answer[last..last + 3]);
+    assert_eq!(next.places(), expected);
     std::array::from_fn(|pixel| [0, 1, 2].map(|output| currents[3 * pixel + output]))
 }
 
@@ -630,7 +633,9 @@ fn byte_strings_worked_out_by_hand() {
     out[12..15].copy_from_slice(&[51, 204, 102]);
     out[36..42].copy_from_slice(&[0x0B, 0x09, 0xF0, 0x01, 0x50, 0x03]);
     let operand = [0, 0, 0, 1, 1, 0, 0, 3];
-    assert_call_gives((&snapshot, &operand), exact, &out, &snapshot);
+    let last_pixel = [(789, 51), (790, 204), (791, 102)];
+    let end = snapshot_bytes(1, &[&places[..], &last_pixel].concat());
+    assert_call_gives((&snapshot, &operand), exact, &out, &end);
 
     // Five pixels, E at the very end, SYNC low: green 144 + 1410 is 0612h.
     let places = [(3, 51), (4, 204), (5, 102), (784, 255), (786, 0xC0)];
@@ -643,16 +648,17 @@ fn byte_strings_worked_out_by_hand() {
     }
     out[42..].copy_from_slice(&[0x12, 0x06, 0xF0, 0x01, 0x50, 0x03]);
     let operand = [0, 0, 0, 0, 1, 0, 0, 1];
-    assert_call_gives((&snapshot, &operand), exact, &out, &snapshot);
+    let shown = snapshot_bytes(1, &[&places[..], &last_pixel].concat());
+    assert_call_gives((&snapshot, &operand), exact, &out, &shown);
 
-    // Blanked: 762 is 02FAh on the five greens.
+    // Blanked: 762 is 02FAh on the five greens, and the last pixel is black again.
     let mut out = [0; OUT_BYTES];
     out[1..3].copy_from_slice(&[5, 2]);
     for pixel in out[18..].chunks_exact_mut(6) {
         pixel[..2].copy_from_slice(&[0xFA, 0x02]);
     }
     let operand = [1, 1, 1, 1, 1, 0, 0, 2];
-    assert_call_gives((&snapshot, &operand), exact, &out, &snapshot);
+    assert_call_gives((&shown, &operand), exact, &out, &snapshot);
 }
 
 #[test]
@@ -701,7 +707,7 @@ fn operand_out_and_end_short_exact_and_longer() {
 #[test]
 fn the_longest_snapshot_fills_the_end_buffer() {
     // Command 1 leaves CR7 and CR6 low: overlay 0, whose codes are all 1.
-    let places: Vec<(u16, u8)> = (0..789).map(|place| (place, 1)).collect();
+    let places: Vec<(u16, u8)> = (0..792).map(|place| (place, 1)).collect();
     let longest = snapshot_bytes(1, &places);
     assert_eq!(longest.len(), END_BYTES);
     let mut out = [0; OUT_BYTES];
@@ -719,7 +725,10 @@ fn the_longest_snapshot_fills_the_end_buffer() {
 
 #[test]
 fn refusal_4_sits_in_the_answer_of_the_call_on_byte_strings() {
-    let snapshot = snapshot_bytes(1, &[(780, 9), (784, 255), (786, 0xC0)]);
+    // The last pixel's codes stay too.
+    let registers = [(780, 9), (784, 255), (786, 0xC0)];
+    let last_pixel = [(789, 7), (790, 8), (791, 9)];
+    let snapshot = snapshot_bytes(1, &[&registers[..], &last_pixel].concat());
     let mut out = [0; OUT_BYTES];
     out[0] = 4;
     for operand in [one_byte(5, 32), one_byte(6, 128), one_byte(7, 6), [255; 8]] {
@@ -766,7 +775,7 @@ fn every_combination_of_faults_gives_the_first_refusal_of_the_call() {
 
 #[test]
 fn neighbours_in_the_order_of_the_calls_refusals() {
-    let mut longer = snapshot_bytes(1, &[(789, 1)]);
+    let mut longer = snapshot_bytes(1, &[(792, 1)]);
     longer.push(1);
     // Sizes of operand, out and end.
     let good = (8, OUT_BYTES, END_BYTES);
@@ -779,7 +788,7 @@ fn neighbours_in_the_order_of_the_calls_refusals() {
         (vec![NOT_BUILT, 0xFF, 0xFF], good, [21, 22]),
         (vec![1, 0xFF, 0xFF], good, [22, 23]),
         (longer, good, [23, 24]),
-        (snapshot_bytes(1, &[(789, 0)]), good, [24, 25]),
+        (snapshot_bytes(1, &[(792, 0)]), good, [24, 25]),
         (snapshot_bytes(2, &[(5, 64)]), good, [25, 40]),
         (snapshot_bytes(3, &[(5, 16)]), good, [25, 40]),
         (vec![2, 0, 0], operand_short, [40, 13]),

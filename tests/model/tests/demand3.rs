@@ -1,19 +1,19 @@
 //! Demand 3 on seeded random logs: two logs with the same accesses in the same
 //! order and the same display events in the same order, shuffled together
-//! freely, with saves anywhere, give every access the same answer. On chips 1
-//! and 2 they end with the same snapshot. If every painting access also has the
-//! same display events before it, every tick gets the same answer too, and logs
-//! of chip 3 end with the same snapshot. Without that, their ends may differ at
-//! places 83 to 85, the colour before, and nowhere else.
+//! freely, with saves anywhere, give every access but a 07h read the same answer.
+//! On chip 2 they end with the same snapshot. If every painting access also has
+//! the same display events before it, every tick gets the same answer too, a 07h
+//! read that has the same display events before it does, and logs of chips 1 and
+//! 3 end with the same snapshot. Without that, their ends may differ at places
+//! 789 to 791, the last pixel's codes, or 83 to 85, the colour before, and nowhere
+//! else.
 
 use crate::common::{painted_answer, play, Played};
-use kit::{before_painting, free_shuffle, painting_shuffle, with_saves, Random, Sort};
-use kit::{is_access, is_display, is_save, is_tick, log_bytes, only, p2, p3, snapshot_bytes};
-use kit::{
-    load, places_that_ticks_move, save as save_event, tick, vertical, write, ANSWER_BYTES,
-    MOST_EVENTS,
-};
-use model::{kind, painting_accesses, restore, save, Answer, Event};
+use kit::{before_painting, free_shuffle, painting_shuffle, taken_together, with_saves};
+use kit::{is_access, is_display, is_save, is_tick, log_bytes, only, p2, p3};
+use kit::{load, read, save as save_event, tick, vertical, write, ANSWER_BYTES, MOST_EVENTS};
+use kit::{places_that_ticks_move, snapshot_bytes, Random, Sort};
+use model::{kind, painting_accesses, restore, save, test_register_reads, Answer, Event};
 use std::collections::BTreeMap;
 
 /// How much of each class the random logs held, so that no test passes by
@@ -44,6 +44,17 @@ struct Census {
     repeated_pixels: usize,
     /// Those that show a colour other than the register's and not black.
     repeated_colours: usize,
+    /// 07h reads.
+    reads: usize,
+    /// Those whose half of a code isn't 0.
+    reads_of_colour: usize,
+    /// Those at another index in the other log that must agree.
+    reads_kept: usize,
+    /// Those that differ.
+    other_reads: usize,
+    /// Pairs whose painting accesses and 07h reads, taken together, keep their
+    /// display events.
+    pairs_together: usize,
 }
 
 impl Census {
@@ -69,6 +80,20 @@ impl Census {
             assert_eq!(answer, painted_answer(number));
             *self.painted.entry(number).or_insert(0) += 1;
         }
+    }
+
+    /// Counts the 07h reads of two logs; these must agree, those may.
+    fn count_reads(&mut self, one: &Reads, two: &Reads, must_agree: &[bool]) {
+        let shows_colour = |answer: &&Answer| answer[1] >> 4 != 0;
+        self.reads += one.answers.len();
+        self.reads_of_colour += one.answers.iter().filter(shows_colour).count();
+        let moved = one.indices.iter().zip(&two.indices).map(|(a, b)| a != b);
+        let kept = moved
+            .zip(must_agree)
+            .filter(|&(moved, &must)| moved && must);
+        self.reads_kept += kept.count();
+        let pairs = one.answers.iter().zip(&two.answers);
+        self.other_reads += pairs.filter(|(a, b)| a != b).count();
     }
 
     /// Counts the pixels of chip 3 that repeat, event by event.
@@ -125,15 +150,67 @@ fn answers_of(events: &[Event], played: &Played, wanted: Sort) -> Vec<Answer> {
         .collect()
 }
 
+/// The answers of the accesses that aren't 07h reads.
+fn other_accesses(events: &[Event], played: &Played, reads: &Reads) -> Vec<Answer> {
+    let numbered = events.iter().zip(&played.answers).enumerate();
+    numbered
+        .filter(|(index, (event, _))| is_access(event) && !reads.indices.contains(index))
+        .map(|(_, (_, &answer))| answer)
+        .collect()
+}
+
+/// The 07h reads of a log.
+struct Reads {
+    indices: Vec<usize>,
+    answers: Vec<Answer>,
+    /// The display events before each.
+    displays: Vec<usize>,
+}
+
+impl Reads {
+    fn of(chip: u8, snapshot: &[u8], events: &[Event], played: &Played) -> Reads {
+        let indices = test_register_reads(snapshot, &log_bytes(chip, events)).unwrap();
+        Reads {
+            answers: indices.iter().map(|&i| played.answers[i]).collect(),
+            displays: before_painting(events, &indices, is_display),
+            indices,
+        }
+    }
+}
+
+/// What demand 3 says about 07h reads: those that have the same display events
+/// before them must agree if painting accesses have. Gives which.
+fn check_reads(one: &Reads, two: &Reads, painting_keeps: bool) -> Vec<bool> {
+    let displays = one.displays.iter().zip(&two.displays);
+    let must_agree: Vec<bool> = displays.map(|(a, b)| painting_keeps && a == b).collect();
+    let answers = one.answers.iter().zip(&two.answers);
+    for ((a, b), &must) in answers.zip(&must_agree) {
+        if must {
+            assert_eq!(a, b);
+        }
+        // Only the half of a code can differ.
+        let rest = |answer: &Answer| (answer[0], answer[1] & 15, answer[2..].to_vec());
+        assert_eq!(rest(a), rest(b));
+    }
+    must_agree
+}
+
 /// One pair of logs: what demand 3 says about them must hold.
 fn check_pair(census: &mut Census, chip: u8, snapshot: &[u8], one: &[Event], two: &[Event]) {
     assert_eq!(only(one, is_access), only(two, is_access));
     assert_eq!(only(one, is_display), only(two, is_display));
     let played_one = play(chip, snapshot, one);
     let played_two = play(chip, snapshot, two);
+    let reads_one = Reads::of(chip, snapshot, one, &played_one);
+    let reads_two = Reads::of(chip, snapshot, two, &played_two);
+    // Which accesses are 07h reads is a matter of the accesses alone.
     assert_eq!(
-        answers_of(one, &played_one, is_access),
-        answers_of(two, &played_two, is_access)
+        before_painting(one, &reads_one.indices, is_access),
+        before_painting(two, &reads_two.indices, is_access)
+    );
+    assert_eq!(
+        other_accesses(one, &played_one, &reads_one),
+        other_accesses(two, &played_two, &reads_two)
     );
     assert_eq!(
         other_places(chip, &played_one.end),
@@ -159,6 +236,18 @@ fn check_pair(census: &mut Census, chip: u8, snapshot: &[u8], one: &[Event], two
     if condition || places_that_ticks_move(chip).is_empty() {
         assert_eq!(played_one.end, played_two.end);
     }
+    let must_agree = check_reads(&reads_one, &reads_two, condition);
+    // The request's own words: painting accesses and 07h reads taken together.
+    let together_one = taken_together(&painting_one, &reads_one.indices);
+    let together_two = taken_together(&painting_two, &reads_two.indices);
+    let displays_one = before_painting(one, &together_one, is_display);
+    if displays_one == before_painting(two, &together_two, is_display) {
+        assert_eq!(
+            answers_of(one, &played_one, is_access),
+            answers_of(two, &played_two, is_access)
+        );
+        census.pairs_together += 1;
+    }
 
     let plain = |events| only(events, |event| !is_save(event));
     census.pairs += 1;
@@ -176,25 +265,53 @@ fn check_pair(census: &mut Census, chip: u8, snapshot: &[u8], one: &[Event], two
     census.pairs_with_other_ends += usize::from(played_one.end != played_two.end);
     census.loads += one.iter().filter(|e| e.kind == kind::LOAD).count();
     census.count_answers(&played_one.answers, &ticks_one);
+    census.count_reads(&reads_one, &reads_two, &must_agree);
     if chip == 3 {
         census.count_inside_registers(one, &played_one.answers, &painting_one);
         census.count_repeats(snapshot, one);
     }
 }
 
-/// Runs `pairs` pairs on one chip, shuffled freely or under the condition.
-fn census_of(seed: u64, chip: u8, pairs: usize, count: usize, condition: bool) -> Census {
+/// Which accesses keep their display events in a shuffle.
+#[derive(Clone, Copy)]
+enum Keep {
+    Nothing,
+    Painting,
+    /// Painting accesses and one 07h read.
+    PaintingAndOneRead,
+    PaintingAndReads,
+}
+
+/// The indices of the accesses to keep.
+fn kept(
+    random: &mut Random,
+    keep: Keep,
+    chip: u8,
+    snapshot: &[u8],
+    events: &[Event],
+) -> Vec<usize> {
+    let log = log_bytes(chip, events);
+    let painting = painting_accesses(snapshot, &log).unwrap();
+    let reads = test_register_reads(snapshot, &log).unwrap();
+    match keep {
+        Keep::Nothing => Vec::new(),
+        Keep::Painting => painting,
+        Keep::PaintingAndOneRead if reads.is_empty() => painting,
+        Keep::PaintingAndOneRead => taken_together(&painting, &[random.pick(&reads)]),
+        Keep::PaintingAndReads => taken_together(&painting, &reads),
+    }
+}
+
+/// Runs `pairs` pairs on one chip, shuffled so that these keep their display
+/// events.
+fn census_of(seed: u64, chip: u8, pairs: usize, count: usize, keep: Keep) -> Census {
     let mut random = Random::seeded(seed);
     let mut census = Census::default();
     for _ in 0..pairs {
         let snapshot = save(&random.state(chip)).unwrap();
         let events = random.events_without_saves(chip, count);
-        let shuffled = if condition {
-            let painting = painting_accesses(&snapshot, &log_bytes(chip, &events)).unwrap();
-            painting_shuffle(&mut random, &events, &painting)
-        } else {
-            free_shuffle(&mut random, &events)
-        };
+        let kept = kept(&mut random, keep, chip, &snapshot, &events);
+        let shuffled = painting_shuffle(&mut random, &events, &kept);
         let mut saved = |events| {
             let often = random.pick(&[2, 5, 1000]);
             with_saves(&mut random, events, often)
@@ -242,6 +359,13 @@ fn assert_well_mixed(census: &Census, chip: u8) {
     assert!(census.refused.keys().eq(possible));
     assert!(census.refused.values().all(|&n| n > census.pairs / 4));
     assert!(census.loads > census.pairs / 4);
+    if chip == 1 {
+        assert!(census.reads > census.pairs, "{}", census.reads);
+        let coloured = census.reads_of_colour;
+        assert!(coloured > census.pairs / 4, "{coloured}");
+    } else {
+        assert_eq!(census.reads, 0);
+    }
     if chip == 3 {
         assert!(census.loads > 20 * census.pairs);
         assert!(census.saves_inside_a_register > census.pairs);
@@ -252,30 +376,58 @@ fn assert_well_mixed(census: &Census, chip: u8) {
 }
 
 #[test]
-fn free_shuffles_on_chip_1_keep_accesses_and_end() {
-    let census = census_of(0xD3_0001, 1, 300, 85, false);
+fn free_shuffles_on_chip_1_keep_accesses_and_the_end_but_the_last_pixel() {
+    let census = census_of(0xD3_0001, 1, 300, 85, Keep::Nothing);
     assert_eq!(census.pairs, 300);
     assert_well_mixed(&census, 1);
+    // Not so 07h reads and the last pixel's places.
+    assert!(census.other_reads > 50, "{}", census.other_reads);
+    // These differ only where the last unblanked pixel shows what was moved past it.
+    let other_ends = census.pairs_with_other_ends;
+    assert!(other_ends > 8, "{other_ends}");
 }
 
 #[test]
 fn free_shuffles_on_chip_2_keep_accesses_and_end() {
-    let census = census_of(0xD3_0002, 2, 300, 85, false);
+    let census = census_of(0xD3_0002, 2, 300, 85, Keep::Nothing);
     assert_eq!(census.pairs, 300);
     assert_well_mixed(&census, 2);
 }
 
 #[test]
-fn painting_shuffles_on_chip_1_keep_ticks_too() {
-    let census = census_of(0xD3_0003, 1, 300, 85, true);
+fn painting_shuffles_on_chip_1_keep_ticks_and_the_end_too() {
+    let census = census_of(0xD3_0003, 1, 300, 85, Keep::Painting);
     assert_eq!(census.pairs_breaking_the_condition, 0);
     assert_eq!(census.pairs_with_other_ticks, 0);
+    assert_eq!(census.pairs_with_other_ends, 0);
+    assert_well_mixed(&census, 1);
+    // The condition doesn't reach to 07h reads.
+    assert!(census.other_reads > 15, "{}", census.other_reads);
+}
+
+#[test]
+fn painting_shuffles_that_keep_a_07h_read_keep_its_answer() {
+    let census = census_of(0xD3_000D, 1, 300, 85, Keep::PaintingAndOneRead);
+    assert_eq!(census.pairs_breaking_the_condition, 0);
+    assert_well_mixed(&census, 1);
+    // One in each log, by and large; others move and differ.
+    assert!(census.reads_kept > 150, "{}", census.reads_kept);
+    assert!(census.other_reads > 15, "{}", census.other_reads);
+}
+
+#[test]
+fn painting_shuffles_that_keep_all_07h_reads_keep_every_access() {
+    let census = census_of(0xD3_000E, 1, 300, 85, Keep::PaintingAndReads);
+    assert_eq!(census.pairs_breaking_the_condition, 0);
+    assert_eq!(census.pairs_together, 300);
+    assert_eq!(census.other_reads, 0);
+    assert!(census.reads_kept > 300, "{}", census.reads_kept);
     assert_well_mixed(&census, 1);
 }
 
 #[test]
 fn painting_shuffles_on_chip_2_keep_ticks_too() {
-    let census = census_of(0xD3_0004, 2, 300, 85, true);
+    let census = census_of(0xD3_0004, 2, 300, 85, Keep::Painting);
     assert_eq!(census.pairs_breaking_the_condition, 0);
     assert_eq!(census.pairs_with_other_ticks, 0);
     assert_well_mixed(&census, 2);
@@ -283,7 +435,7 @@ fn painting_shuffles_on_chip_2_keep_ticks_too() {
 
 #[test]
 fn free_shuffles_on_chip_3_keep_accesses_and_the_end_but_the_colour_before() {
-    let census = census_of(0xD3_0009, 3, 300, 85, false);
+    let census = census_of(0xD3_0009, 3, 300, 85, Keep::Nothing);
     assert_eq!(census.pairs, 300);
     assert_well_mixed(&census, 3);
     // The colour before differs only where the last pixels show a register that
@@ -293,7 +445,7 @@ fn free_shuffles_on_chip_3_keep_accesses_and_the_end_but_the_colour_before() {
 
 #[test]
 fn painting_shuffles_on_chip_3_keep_ticks_and_the_end_too() {
-    let census = census_of(0xD3_000A, 3, 300, 85, true);
+    let census = census_of(0xD3_000A, 3, 300, 85, Keep::Painting);
     assert_eq!(census.pairs_breaking_the_condition, 0);
     assert_eq!(census.pairs_with_other_ticks, 0);
     assert_eq!(census.pairs_with_other_ends, 0);
@@ -303,7 +455,7 @@ fn painting_shuffles_on_chip_3_keep_ticks_and_the_end_too() {
 #[test]
 fn the_painting_condition_matters() {
     for (seed, chip) in [(0xD3_0005, 1), (0xD3_0006, 2), (0xD3_000B, 3)] {
-        let census = census_of(seed, chip, 100, 85, false);
+        let census = census_of(seed, chip, 100, 85, Keep::Nothing);
         // Only pairs that break the condition can have other ticks, and many
         // of them do (check_pair has compared the rest).
         assert!(census.pairs_breaking_the_condition > 75);
@@ -350,7 +502,135 @@ fn a_tick_before_or_after_a_blue_write_on_chip_1() {
     assert_eq!(after.answers[1][3..6], [1, 2, 3]);
     assert_eq!(before.answers[1], after.answers[0]);
     assert_eq!(before.answers[1], painted_answer(0));
+    // The ends differ at the last pixel's places alone.
+    let painted = [
+        (0, 1),
+        (1, 2),
+        (2, 3),
+        (780, 1),
+        (782, 1),
+        (783, 2),
+        (784, 255),
+        (786, 0x40),
+    ];
+    let last_pixel = [(789, 1), (790, 2), (791, 3)];
+    assert_eq!(before.end, snapshot_bytes(1, &painted));
+    let both = [&painted[..], &last_pixel].concat();
+    assert_eq!(after.end, snapshot_bytes(1, &both));
+}
+
+/// The same with ends of one length: entry 0 had a colour already.
+#[test]
+fn ends_of_chip_1_can_differ_in_their_bytes_alone() {
+    let start = [(0, 9), (1, 8), (2, 7), (781, 2), (782, 1), (783, 2)];
+    let shown_palette = [(784, 255), (786, 0x40)];
+    let snapshot = snapshot_bytes(1, &[&start[..], &shown_palette].concat());
+    let shown = tick([0, 0, 0, 0, 0, 0, 0, 1]);
+    let before = play(1, &snapshot, &[shown, write(1, 3)]);
+    let after = play(1, &snapshot, &[write(1, 3), save_event(), shown]);
+    assert_eq!(before.end.len(), after.end.len());
+    let end = |red, green, blue| {
+        let painted = [(0, 1), (1, 2), (2, 3), (780, 1), (782, 1), (783, 2)];
+        let last_pixel = [(789, red), (790, green), (791, blue)];
+        snapshot_bytes(1, &[&painted[..], &shown_palette, &last_pixel].concat())
+    };
+    assert_eq!(before.end, end(9, 8, 7));
+    assert_eq!(after.end, end(1, 2, 3));
+}
+
+/// A later blanked tick makes the ends agree again, though the painting condition
+/// fails; the condition is enough, and not needed.
+#[test]
+fn ends_of_chip_1_can_agree_without_the_condition() {
+    let snapshot = snapshot_bytes(1, &[(781, 2), (782, 1), (784, 255), (786, 0x40)]);
+    let shown = tick([0, 0, 0, 0, 0, 0, 0, 1]);
+    let blanked = tick([0, 0, 0, 0, 0, 0, 0, 0]);
+    let before = play(1, &snapshot, &[shown, write(1, 3), blanked]);
+    let after = play(1, &snapshot, &[write(1, 3), shown, blanked]);
+    assert_ne!(before.answers[0], after.answers[1]);
     assert_eq!(before.end, after.end);
+}
+
+/// Address 7 and this test byte; overlay 0, which every pixel shows, is B4h 5Ah
+/// C3h.
+fn at_07h(test: u8) -> Vec<u8> {
+    let overlay_0 = [(768, 0xB4), (769, 0x5A), (770, 0xC3)];
+    let registers = [(780, 7), (787, test)];
+    snapshot_bytes(1, &[&overlay_0[..], &registers].concat())
+}
+
+/// One swap by hand: a tick on either side of a 07h read. No access paints, so the
+/// tick and the end agree, and the read doesn't.
+#[test]
+fn a_07h_read_before_or_after_a_tick() {
+    let shown = tick([0, 0, 0, 0, 0, 0, 0, 1]);
+    // Test byte, and what is read before the tick and after it.
+    for (test, black, coloured) in [
+        (0x01, 0x01, 0xB1),
+        (0x02, 0x02, 0x52),
+        (0x04, 0x04, 0xC4),
+        (0x09, 0x09, 0x49),
+        (0x0A, 0x0A, 0xAA),
+        (0x0C, 0x0C, 0x3C),
+        // No colour selected, and two: nothing to differ in.
+        (0xF0, 0x00, 0x00),
+        (0x03, 0x03, 0x03),
+    ] {
+        let first = play(1, &at_07h(test), &[read(2), shown]);
+        let last = play(1, &at_07h(test), &[shown, read(2)]);
+        assert_eq!(first.answers[0][..2], [0, black]);
+        assert_eq!(last.answers[1][..2], [0, coloured]);
+        assert_eq!(first.answers[1], last.answers[0]);
+        assert_eq!(first.end, last.end);
+    }
+}
+
+/// One swap by hand: the read has the same tick before it, and a painting write
+/// has not.
+#[test]
+fn a_07h_read_sees_a_painting_write_that_moved() {
+    // Red of entry 0, whose blue is written; then address 7.
+    let start = [(781, 2), (782, 0xE5), (784, 255), (786, 0x40), (787, 1)];
+    let snapshot = snapshot_bytes(1, &start);
+    let shown = tick([0, 0, 0, 0, 0, 0, 0, 1]);
+    let one = [shown, write(1, 3), write(0, 7), read(2)];
+    let two = [write(1, 3), shown, write(0, 7), read(2)];
+    let [one, two] = [one, two].map(|events| play(1, &snapshot, &events));
+    assert_eq!(one.answers[3][..2], [0, 0x01]);
+    assert_eq!(two.answers[3][..2], [0, 0xE1]);
+}
+
+/// By hand: a 07h read that keeps its ticks agrees, whatever becomes of another
+/// and of accesses that don't paint.
+#[test]
+fn a_07h_read_agrees_though_another_moved() {
+    let ticks = [
+        tick([0, 0, 0, 0, 0, 0, 0, 1]),
+        tick([0, 0, 0, 0, 0, 0, 0, 0]),
+    ];
+    let colour = write(2, 0x0A);
+    let one = [read(2), ticks[0], colour, read(2), ticks[1]];
+    let two = [ticks[0], save_event(), read(2), colour, read(2), ticks[1]];
+    let (one, two) = (play(1, &at_07h(1), &one), play(1, &at_07h(1), &two));
+    assert_eq!(one.answers[0][..2], [0, 0x01]);
+    assert_eq!(two.answers[2][..2], [0, 0xB1]);
+    assert_eq!(one.answers[3][..2], [0, 0xAA]);
+    assert_eq!(one.answers[3], two.answers[4]);
+    assert_eq!(one.end, two.end);
+}
+
+/// By hand: vertical periods and refused ticks are display events, but leave the
+/// codes, so no answer need differ where they alone move.
+#[test]
+fn a_07h_read_does_not_see_vertical_periods_and_refused_ticks() {
+    let shown = tick([0, 0, 0, 0, 0, 0, 0, 1]);
+    let refused = tick([0, 0, 0, 0, 0, 32, 0, 1]);
+    let one = [shown, read(2), vertical(), refused];
+    let two = [shown, vertical(), refused, read(2)];
+    let (one, two) = (play(1, &at_07h(1), &one), play(1, &at_07h(1), &two));
+    assert_eq!(one.answers[1][..2], [0, 0xB1]);
+    assert_eq!(one.answers[1], two.answers[3]);
+    assert_eq!(one.end, two.end);
 }
 
 /// By hand: whatever stands before them, painting writes answer the same number.

@@ -60,10 +60,11 @@ fn digits_are_lowercase_and_every_line_ends_with_a_line_feed() {
     expected += quiet;
     expected += "000106010000000000000000000000000000\n";
     expected += "000503abcdefabcdefabcdefabcdefabcdef\n";
-    // Places 765 to 767, 780 (06h), 782, 783, 784, 786 and their values.
-    expected += "010800";
-    expected += "fd02fe02ff020c030e030f0310031203";
-    expected += "abcdef06abcdffc0\n";
+    // Places 765 to 767, 780 (06h), 782, 783, 784, 786, the last pixel's 789 to
+    // 791, and their values.
+    expected += "010b00";
+    expected += "fd02fe02ff020c030e030f0310031203150316031703";
+    expected += "abcdef06abcdffc0abcdef\n";
     assert_eq!(printed(&log_bytes(1, &events)), expected);
 }
 

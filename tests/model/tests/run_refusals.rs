@@ -4,7 +4,7 @@
 use crate::common::{assert_refused, header_over_the_limit, run_with, snapshot_with};
 use kit::{chip_of_round, highest_kind, log_bytes, not_built};
 use kit::{load, read, save, tick, vertical, write, Random, CHIPS, NOT_BUILT};
-use kit::{ANSWER_BYTES, END_BYTES, MOST_EVENTS};
+use kit::{ANSWER_BYTES, END_BYTES, MOST_EVENTS, OLDER_END_BYTES};
 use model::{kind, read_log, Event};
 
 fn assert_accepted(snapshot: &[u8], log: &[u8], answer_bytes: usize, end_bytes: usize) {
@@ -237,7 +237,8 @@ fn refusal_30_one_byte_short_exact_and_longer() {
 fn refusal_31_one_byte_short_exact_and_longer() {
     for chip in CHIPS {
         let log = log_bytes(chip, &[read(0)]);
-        for size in [0, 3, 261, 2325, END_BYTES - 1] {
+        // 2,370 were enough before Note 7.
+        for size in [0, 3, 261, 2325, OLDER_END_BYTES, END_BYTES - 1] {
             assert_refused(&[chip, 0, 0], &log, ANSWER_BYTES, size, 31);
         }
         assert_accepted(&[chip, 0, 0], &log, ANSWER_BYTES, END_BYTES);

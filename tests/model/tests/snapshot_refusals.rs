@@ -3,7 +3,8 @@
 //! there are.
 
 use crate::common::Bench;
-use kit::{largest, not_built, p1, p2, p3, place_count, snapshot_bytes, CHIPS, END_BYTES};
+use kit::{largest, not_built, p1, p2, p3, place_count, snapshot_bytes, CHIPS};
+use kit::{END_BYTES, OLDER_END_BYTES};
 use model::{restore, save, save_into, Refusal, State};
 
 /// A refused restore gives a fresh chip 1 beside its number.
@@ -40,7 +41,7 @@ fn a_state_of_a_built_chip_has_that_chips_places() {
     assert_eq!(State::from_places(1, &[0; p1::COUNT]), State::fresh(1));
     assert_eq!(State::from_places(2, &[0; p2::COUNT]), State::fresh(2));
     assert_eq!(State::from_places(3, &[0; p3::COUNT]), State::fresh(3));
-    for (chip, count) in [(1, 789), (2, 774), (3, 86)] {
+    for (chip, count) in [(1, 792), (2, 774), (3, 86)] {
         for wrong in [0, 1, count - 1, count + 1] {
             assert_eq!(State::from_places(chip, &vec![0; wrong]), None);
         }
@@ -110,7 +111,7 @@ fn refusal_22_count_over_the_places() {
         assert_refused(&first_places(chip, most + 1), 22);
         assert_refused(&[chip, 0xFF, 0xFF], 22);
     }
-    // 775 to 789 places are too many for chip 2 alone.
+    // 775 to 792 places are too many for chip 2 alone.
     assert_accepted(&first_places(1, 775));
     assert_refused(&first_places(2, 775), 22);
     // 87 and more are too many for chip 3 alone.
@@ -198,7 +199,7 @@ fn refusals_24_and_25_the_lowest_index_decides() {
 
 #[test]
 fn refusals_24_and_25_at_one_index_the_smaller_number() {
-    assert_refused(&snapshot_bytes(1, &[(789, 0)]), 24);
+    assert_refused(&snapshot_bytes(1, &[(792, 0)]), 24);
     assert_refused(&snapshot_bytes(2, &[(774, 0)]), 24);
     assert_refused(&snapshot_bytes(1, &[(781, 1), (781, 3)]), 24);
     assert_refused(&snapshot_bytes(1, &[(5, 1), (5, 0)]), 24);
@@ -223,10 +224,11 @@ fn the_largest_values_of_chip_3() {
 fn a_restore_puts_every_value_at_its_place() {
     let state = assert_accepted(&snapshot_bytes(
         1,
-        &[(0, 7), (780, 8), (781, 2), (788, 127)],
+        &[(0, 7), (780, 8), (781, 2), (788, 127), (789, 255), (791, 6)],
     ));
     let mut expected = vec![0; p1::COUNT];
     (expected[0], expected[780], expected[781], expected[788]) = (7, 8, 2, 127);
+    (expected[789], expected[791]) = (255, 6);
     assert_eq!(state.chip(), 1);
     assert_eq!(state.places(), expected);
 
@@ -301,7 +303,8 @@ fn save_into_a_lent_buffer_one_short_exact_and_longer() {
             assert_eq!(buffer[9..], vec![0xEE; size - 9]);
         }
         // 261 and 2,325 bytes would do for any state of chips 3 and 2.
-        for size in [0, 9, 261, 2325, END_BYTES - 1] {
+        // 2,370 would have done before Note 7.
+        for size in [0, 9, 261, 2325, OLDER_END_BYTES, END_BYTES - 1] {
             assert_save_into_refused(&bench, size, 31);
         }
     }

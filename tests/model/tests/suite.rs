@@ -16,6 +16,7 @@ mod printing;
 mod round_trips;
 mod run_refusals;
 mod snapshot_refusals;
+mod test_register;
 mod tlc34058_tables;
 mod tms34070_registers;
 mod write_answers;

@@ -1,5 +1,5 @@
-//! The TLC34058's Tables 1 to 7 as tests. The expected values are worked out
-//! from the data sheet by hand.
+//! The TLC34058's Tables 1 to 7 as tests; Table 8 is in test_register.rs. The
+//! expected values are worked out from the data sheet by hand.
 
 use crate::common::Bench;
 use kit::{c, p1, ANSWER_BYTES};
@@ -230,7 +230,7 @@ fn tables_1_and_2_share_rreg_greg_and_both_counters() {
 
 #[test]
 fn table_3_control_registers_are_read_and_modified_in_place() {
-    for (address, place) in [(4, 784), (5, 785), (6, 786), (7, 787)] {
+    for (address, place) in [(4, 784), (5, 785), (6, 786)] {
         for addr_ab in [0, 1, 2] {
             let mut chip = Bench::with_places(1, &[(p1::ADDRESS, address)]);
             chip.set(p1::POSITION, addr_ab);
@@ -283,7 +283,8 @@ fn table_4_says_which_address_reaches_what() {
             4 => (0, 0xF4),
             5 => (0, 0xF5),
             6 => (0, 0xF6),
-            7 => (0, 0xF7),
+            // Three colours selected: the low four bits alone.
+            7 => (0, 0x07),
             _ => (2, 0),
         };
         for (selector, expected) in [
@@ -551,13 +552,20 @@ fn masks_do_not_touch_the_overlay_inputs() {
 }
 
 #[test]
-fn ticks_change_no_place() {
+fn ticks_change_the_last_pixels_places_alone() {
     let mut chip = table_5_chip(0xFF);
     chip.set(p1::POSITION, 2);
-    let before = chip.state.clone();
-    for levels in 0..4 {
+    let mut expected = chip.state.places();
+    // Pixel E is overlay 3; with BLK low it is black.
+    for (levels, codes) in [
+        (1, [0x43, 0x53, 0x63]),
+        (0, [0, 0, 0]),
+        (3, [0x43, 0x53, 0x63]),
+        (2, [0, 0, 0]),
+    ] {
         chip.event(kind::TICK, [1, 2, 3, 4, 5, 31, 31, levels]);
-        assert_eq!(chip.state, before);
+        expected[p1::LAST_RED..].copy_from_slice(&codes);
+        assert_eq!(chip.state.places(), expected);
     }
 }
 

@@ -310,10 +310,13 @@ fn reads_answer_their_byte_and_no_number() {
         assert_eq!(read_answer(chip_1_at(9, 2), 29, c::PALETTE), expected);
         assert_eq!(read_answer(chip_1_at(3, 2), 779, c::OVERLAY), expected);
         assert_eq!(read_answer(chip_2_at(9, 2, 1), 26, rs::CLT), expected);
-        for (address, place) in [(4, 784), (5, 785), (6, 786), (7, 787)] {
+        for (address, place) in [(4, 784), (5, 785), (6, 786)] {
             let chip = chip_1_at(address, 2);
             assert_eq!(read_answer(chip, place, c::CONTROL), expected);
         }
+        // The test register gives the low four bits alone after black.
+        let test = read_answer(chip_1_at(7, 2), p1::TEST, c::CONTROL);
+        assert_eq!(test, answer_of(&[0, byte & 15, 0, 0]));
         let chip = chip_2_at(9, 2, 0);
         assert_eq!(read_answer(chip, p2::MASK, rs::PIXEL_MASK), expected);
     }

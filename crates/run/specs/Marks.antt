@@ -11,6 +11,7 @@ use Rattle.event.specs.Event.{Raw}
 use Rattle.event.specs.Table.{all}
 use Rattle.colour.specs.Colour as colour
 use Rattle.tlc34058.specs.Facts as facts₁
+use Rattle.tlc34058.specs.TestRegister as test₁
 use Rattle.tlc34058.specs.Port as port₁
 use Rattle.tlc34058.specs.Places as places₁
 use Rattle.hd153129.specs.Facts as facts₂
@@ -112,5 +113,5 @@ table =
     ∷ []
 
 pub marked : T (all holds table)
-unfolding table holds bytesOf places₁.placesOf places₂.placesOf port₁.accessRefusal port₁.select port₁.request port₁.register port₁.withRegister port₂.accessRefusal port₂.requestWrite port₂.requestRead port₂.request colour.onward colour.held colour.stored
+unfolding table holds bytesOf places₁.placesOf places₂.placesOf port₁.accessRefusal port₁.select port₁.request port₁.register port₁.withRegister test₁.dacInput test₁.testRead port₂.accessRefusal port₂.requestWrite port₂.requestRead port₂.request colour.onward colour.held colour.stored
 marked = tt

@@ -48,16 +48,16 @@ asked : (p : Port) (e : Raw) → e .kind ≡ kinds.write → Written (request p 
 unfolding request
 asked p e k = simp (eq-eqb _ _ k) (written-by (p .cursor .address) (operandAt e 0) (operandAt e 1))
 
-says : (p : Port) (x : Access) → Written x → byteIn (reply p x) 1 ≡ cond (altersDisplay p x) 1 0
+says : (p : Port) (d : Display) (x : Access) → Written x → byteIn (reply p d x) 1 ≡ cond (altersDisplay p x) 1 0
 unfolding bytesOf
-says p (refuse n) w = refl
-says p (setAddress b) w = refl
-says p (setColour e b) w = says-written (altersDisplay p (setColour e b)) e
-says p (setRegister a b) w = says-written (altersDisplay p (setRegister a b)) (256 + a)
-says p getAddress w = absurd w
-says p (getColour e) w = absurd w
-says p (getRegister a) w = absurd w
-says p nothing w = absurd w
+says p d (refuse n) w = refl
+says p d (setAddress b) w = refl
+says p d (setColour e b) w = says-written (altersDisplay p (setColour e b)) e
+says p d (setRegister a b) w = says-written (altersDisplay p (setRegister a b)) (256 + a)
+says p d getAddress w = absurd w
+says p d (getColour e) w = absurd w
+says p d (getRegister a) w = absurd w
+says p d nothing w = absurd w
 
 -- where a tick sees the same, it shows the same
 seen-same : (p q : Port) (d : Display) (t : Raw) → visible p ≡ visible q → show p d t ≡ show q d t
@@ -97,13 +97,13 @@ module _ (p : Port) (d : Display) (t : Raw) (i k : ℕ) (l : k < 3) (colours : L
       (choice (λ a b. codeIn a i k ≡ codeIn b i k) (undefinedBits o) (refused 4) (refused 4) (answer colours) (answer (p .colours)) refl shows)
       refl
 
-others : (p : Port) (d : Display) (t : Raw) (i k : ℕ) (x : Access) → Written x → altersDisplay p x ≡ true → numberIn (reply p x) < facts.entries
-    → (entryAt (p .registers) (blinkOn (p .registers .command) (d .blink)) (t .operand) i ≡ numberIn (reply p x) → ⊥) → k < 3 → codeIn (show (next p x) d t) i k ≡ codeIn (show p d t) i k
+others : (p : Port) (d : Display) (t : Raw) (i k : ℕ) (x : Access) → Written x → altersDisplay p x ≡ true → numberIn (reply p d x) < facts.entries
+    → (entryAt (p .registers) (blinkOn (p .registers .command) (d .blink)) (t .operand) i ≡ numberIn (reply p d x) → ⊥) → k < 3 → codeIn (show (next p x) d t) i k ≡ codeIn (show p d t) i k
 others p d t i k (setColour e b) w alters few other l =
-    let number : numberIn (reply p (setColour e b)) ≡ e = numbered alters e in
+    let number : numberIn (reply p d (setColour e b)) ≡ e = numbered alters e in
     shown-same p d t i k l _ _ (stored-other (p .colours) (p .cursor) e b _ k l (λ q. other (q ∙ sym number)))
 others p d t i k (setRegister a b) w alters few other l =
-    let number : numberIn (reply p (setRegister a b)) ≡ 256 + a = numbered alters (256 + a) in
+    let number : numberIn (reply p d (setRegister a b)) ≡ 256 + a = numbered alters (256 + a) in
     absurd (omega arith)
 others p d t i k (refuse n) w alters few other l = refl
 others p d t i k (setAddress b) w alters few other l = absurd (false≢true alters)
@@ -114,11 +114,11 @@ others p d t i k nothing w alters few other l = absurd w
 
 pub says-painted : SaysPainted
 says-painted = record {
-  says = λ s e k. says (s .port) (request (s .port) e) (asked (s .port) e k);
+  says = λ s e k. says (s .port) (s .display) (request (s .port) e) (asked (s .port) e k);
   none = λ s e t k z.
       let x = request (s .port) e in
-      seen-same (next (s .port) x) (s .port) (s .display) t (unaltered (s .port) x (told (altersDisplay (s .port) x) false (says (s .port) x (asked (s .port) e k)) z));
+      seen-same (next (s .port) x) (s .port) (s .display) t (unaltered (s .port) x (told (altersDisplay (s .port) x) false (says (s .port) (s .display) x (asked (s .port) e k)) z));
   others = λ s e t i k w h few other l.
       let x = request (s .port) e in
-      others (s .port) (s .display) t i k x (asked (s .port) e w) (told (altersDisplay (s .port) x) true (says (s .port) x (asked (s .port) e w)) h) few other l;
+      others (s .port) (s .display) t i k x (asked (s .port) e w) (told (altersDisplay (s .port) x) true (says (s .port) (s .display) x (asked (s .port) e w)) h) few other l;
 }

@@ -1,16 +1,21 @@
--- Five pixels' codes, three at a time, behind the first three bytes of an answer.
-use Prim.Native.Nat.{ℕ, _+_, _*_, _/_, _^_, _≤_, _<_}
+-- Five pixels' codes, three at a time, behind the first three bytes of an answer; and the last pixel's among them.
+use Prim.Native.Nat.{ℕ, _+_, _-_, _*_, _/_, _^_, _≤_, _<_}
 use mathlib.Core.Path.{_≡_, refl, sym, _∙_, ap}
-use mathlib.Core.Bool.{Bool, false}
+use mathlib.Core.Bool.{Bool, true, false, cond}
 use mathlib.Core.List.{List, [], _∷_, _++_, append-assoc, append-nil}
 use native.Mathlib.Numerals.{add-one}
-use native.Mathlib.Nat.{div-div-eq-div-mul, pow-suc, div-one}
+use native.Mathlib.Nat.{add-zero, div-div-eq-div-mul, pow-suc, div-one}
 use native.Mathlib.Omega.{arith}
 use lib.ListN.{length, getD, set, take, length-set}
 use lib.Seq.{take-suc-set, take-all}
+use Rattle.laws.proofs.Tests.{cond-all}
 use Rattle.event.specs.Answer.{bytesOf}
-use Rattle.tlc34058.specs.State.{Port, Display}
-use Rattle.tlc34058.specs.Tick.{pixelCount, blinkOn, codeAt, codesUpTo, shownPixels, undefinedBits, tick}
+use Rattle.event.specs.Event.{bit}
+use Rattle.tlc34058.specs.State.{Registers, Codes, black, Port, Display, State}
+use Rattle.tlc34058.specs.Tick.{pixelCount, blinkOn, codeOf, codeAt, entryAt, codesUpTo, shownPixels, undefinedBits, tick, codesAt, lastShown, ticked}
+use Rattle.tlc34058.specs.Struct.{codesOf, Ticked}
+use Rattle.tlc34058.specs.Codes.{CodesAre}
+use Rattle.tlc34058.specs.declared.Codes as code
 
 -- one more store at the end of what is known
 one-more : (l x : List ℕ) (i j a : ℕ) → j ≡ i + 1 → i < length l → take i l ≡ x → take j (set l i a) ≡ x ++ a ∷ []
@@ -64,10 +69,56 @@ first-three (x ∷ []) a b c h = absurd (omega arith)
 first-three (x ∷ y ∷ []) a b c h = absurd (omega arith)
 first-three (x ∷ y ∷ z ∷ l) a b c h = refl
 
--- three bytes and five pixels' codes are the answer
-pub ticked : (p : Port) (d : Display) (o part l : List ℕ) (on : Bool) (n count : ℕ) → undefinedBits o ≡ false → 3 ≤ length part →
-    count ≡ pixelCount (p .registers .command) → on ≡ blinkOn (p .registers .command) (d .blink) → n ≡ shownPixels (p .registers .command) (getD o 7 0) →
-    l ≡ take 3 (set (set (set part 0 0) 1 count) 2 (getD o 7 0)) ++ codesUpTo (codeAt (p .colours) (p .registers) on n o) 5 →
-    l ≡ bytesOf (tick p d o)
-unfolding tick bytesOf codesUpTo
-ticked p d o part l on n count u h ec eo en e = e ∙ rw (first-three part 0 count (getD o 7 0) h, ec, eo, en, u)
+pub few-pixels : (command : ℕ) → pixelCount command ≤ 5
+few-pixels command = cond-all (λ n. n ≤ 5) (bit 7 command) 5 4 (omega arith) (omega arith)
+
+-- component k of pixel i
+abbrev pixelCodes : (ℕ → ℕ → ℕ) → ℕ → Codes
+pixelCodes f i = record { red = f i 0; green = f i 1; blue = f i 2 }
+
+-- the three bytes of the last of four or five pixels
+last-bytes : (f : ℕ → ℕ → ℕ) (a b c : ℕ) (five : Bool)
+    → pixelCodes (λ i k. getD (a ∷ b ∷ c ∷ codesUpTo f 5) (3 * i + k) 0) (cond five 5 4) ≡ pixelCodes f (cond five 5 4 - 1)
+unfolding codesUpTo
+last-bytes f a b c true = refl
+last-bytes f a b c false = refl
+
+-- they are those of its entry where the tick isn't blanked, and black where it is
+last-shown : (colours : List ℕ) (r : Registers) (on : Bool) (o : List ℕ) (five lit : Bool)
+    → pixelCodes (codeAt colours r on (cond lit (cond five 5 4) 0) o) (cond five 5 4 - 1) ≡ cond lit (codesAt colours (entryAt r on o (cond five 5 4 - 1))) black
+unfolding codeOf
+last-shown colours r on o true true = simp add-zero
+last-shown colours r on o false true = simp add-zero
+last-shown colours r on o true false = refl
+last-shown colours r on o false false = refl
+
+-- a tick that isn't refused, by what the code found: three bytes and five pixels' codes are the answer, and the last pixel's are kept
+module _ (p : Port) (d : Display) (o part l : List ℕ) (on : Bool) (n count : ℕ) (u : undefinedBits o ≡ false) (h : 3 ≤ length part)
+    (ec : count ≡ pixelCount (p .registers .command)) (eo : on ≡ blinkOn (p .registers .command) (d .blink)) (en : n ≡ shownPixels (p .registers .command) (getD o 7 0))
+    (e : l ≡ take 3 (set (set (set part 0 0) 1 count) 2 (getD o 7 0)) ++ codesUpTo (codeAt (p .colours) (p .registers) on n o) 5) where
+  codes : ℕ → ℕ → ℕ
+  codes = codeAt (p .colours) (p .registers) (blinkOn (p .registers .command) (d .blink)) (shownPixels (p .registers .command) (getD o 7 0)) o
+
+  bytes : l ≡ 0 ∷ pixelCount (p .registers .command) ∷ getD o 7 0 ∷ codesUpTo codes 5
+  unfolding codes
+  bytes = e ∙ rw (first-three part 0 count (getD o 7 0) h, ec, eo, en)
+
+  answered : l ≡ bytesOf (tick p d o)
+  unfolding codes tick bytesOf codesUpTo
+  answered = bytes ∙ rw u
+
+  last-kept : (at : ℕ) (r : code.Codes) → at ≡ count → CodesAre (λ k. getD l (3 * at + k) 0) r → codesOf r ≡ lastShown p d o
+  unfolding codes lastShown
+  last-kept at r ea c =
+      (λ i. record { red = c .red i; green = c .green i; blue = c .blue i })
+      ∙ (λ i. pixelCodes (λ m k. getD (bytes i) (3 * m + k) 0) ((ea ∙ ec) i))
+      ∙ last-bytes codes _ _ _ (bit 7 (p .registers .command))
+      ∙ last-shown (p .colours) (p .registers) _ o (bit 7 (p .registers .command)) (bit 0 (getD o 7 0))
+
+  pub shown-tick : (at : ℕ) (r : code.Codes) (after : State) → at ≡ count → CodesAre (λ k. getD l (3 * at + k) 0) r
+      → after ≡ record { port = p; display = record { blink = d .blink; last = codesOf r } } → Ticked (record { port = p; display = d }) after o l
+  unfolding ticked
+  shown-tick at r after ea c s = record {
+    state = s ∙ rw u (λ i. record { port = p; display = record { blink = d .blink; last = last-kept at r ea c i } });
+    answer = answered;
+  }

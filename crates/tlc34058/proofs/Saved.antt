@@ -13,7 +13,7 @@ use Rattle.snapshot.proofs.Layouts as layout
 use Rattle.tlc34058.specs.Facts.{number, colours, largestColour, largestRest, places, largest}
 use Rattle.tlc34058.specs.State.{State, fresh}
 use Rattle.tlc34058.specs.Places.{behind, tailOf, placesOf, stateFrom, saved, decodedOrFresh}
-use Rattle.tlc34058.proofs.Sound.{Sound}
+use Rattle.tlc34058.proofs.Sound.{Sound, sound-black}
 
 -- the colours and the rest within their bounds are a sound state
 sound-parts : (s : State) → Parts colours largestColour largestRest (s .port .colours) (tailOf s) → Sound s
@@ -26,18 +26,19 @@ sound-parts s p =
         cursor = record { address = r 0; position = r 1; heldRed = r 2; heldGreen = r 3 };
         registers = record { readMask = r 4; blinkMask = r 5; command = r 6; test = r 7 };
       };
-      blink = r 8;
+      display = record { blink = r 8; last = record { red = r 9; green = r 10; blue = r 11 } };
     }
 
 parts-sound : (s : State) → Sound s → Parts colours largestColour largestRest (s .port .colours) (tailOf s)
 parts-sound s v =
     let c = v .port .cursor in
     let r = v .port .registers in
+    let d = v .display in
     record {
       long = v .port .long;
       small = v .port .small;
       rest-small = each largestRest (tailOf s)
-          (c .address, (c .position, (c .heldRed, (c .heldGreen, (r .readMask, (r .blinkMask, (r .command, (r .test, (v .blink, tt)))))))));
+          (c .address, (c .position, (c .heldRed, (c .heldGreen, (r .readMask, (r .blinkMask, (r .command, (r .test, (d .blink, (d .last .red, (d .last .green, (d .last .blue, tt))))))))))));
     }
 
 pub valid : (s : State) → Sound s → Valid largest (placesOf s)
@@ -60,7 +61,7 @@ sound-from l v =
         cursor = record { address = at 0; position = at 1; heldRed = at 2; heldGreen = at 3 };
         registers = record { readMask = at 4; blinkMask = at 5; command = at 6; test = at 7 };
       };
-      blink = at 8;
+      display = record { blink = at 8; last = record { red = at 9; green = at 10; blue = at 11 } };
     }
 
 pub sound-fresh : Sound fresh
@@ -71,7 +72,7 @@ sound-fresh = record {
     cursor = record { address = omega arith; position = omega arith; heldRed = omega arith; heldGreen = omega arith };
     registers = record { readMask = omega arith; blinkMask = omega arith; command = omega arith; test = omega arith };
   };
-  blink = omega arith;
+  display = record { blink = omega arith; last = sound-black };
 }
 
 pub largest-long : length largest ≡ places
@@ -85,7 +86,7 @@ state-back s v =
     let long = v .port .long in
     let rest : List ℕ = tailOf s in
     let at : (k : ℕ) → getD (s .port .colours ++ rest) (colours + k) 0 ≡ getD rest k 0 = λ k. rw long at (getD-append-add (s .port .colours) rest k 0) in
-    simp (take-at (s .port .colours) rest colours long, at 0, at 1, at 2, at 3, at 4, at 5, at 6, at 7, at 8)
+    simp (take-at (s .port .colours) rest colours long, at 0, at 1, at 2, at 3, at 4, at 5, at 6, at 7, at 8, at 9, at 10, at 11)
 
 -- the places of the state of a list of places are those places
 places-back : (l : List ℕ) → length l ≡ length largest → placesOf (stateFrom l) ≡ l

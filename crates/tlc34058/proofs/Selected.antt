@@ -9,9 +9,9 @@ use Rattle.laws.proofs.Tests.{passed}
 use Rattle.event.specs.Answer.{bytesOf}
 use Rattle.colour.specs.Colour.{Cursor}
 use Rattle.colour.specs.Struct.{cursorOf}
-use Rattle.tlc34058.specs.State.{Registers, State}
+use Rattle.tlc34058.specs.State.{Registers, Display, State}
 use Rattle.tlc34058.specs.Port.{Access, refuse, setAddress, setColour, setRegister, getAddress, getColour, getRegister, accessRefusal, select, writing, reading, next, reply}
-use Rattle.tlc34058.specs.Struct.{registersOf, joined, Accessed}
+use Rattle.tlc34058.specs.Struct.{registersOf, displayOf, joined, Accessed}
 use Rattle.tlc34058.specs.declared.Control.{Control}
 
 module _ (n a : ℕ) (x : Access) (f g : ℕ → Access) where
@@ -83,14 +83,14 @@ module _ (a n : ℕ) where
       ltb-false a 4 (passed (ltb a 4) 2 _ (eqb-false 2 0 refl) (simp (ne-eqb n 3 t, eq-eqb n 2 is) at (low .1)) .0)
 
 -- a struct's state, part by part
-pub joined-by : (l l′ : List ℕ) (r c : Control) (k : Cursor) (g : Registers) → l ≡ l′ → cursorOf (r .cursor) ≡ k → registersOf r ≡ g → r .blink ≡ c .blink
-    → _≡_ {A = State} (joined l r) (record { port = record { colours = l′; cursor = k; registers = g }; display = record { blink = c .blink } })
-joined-by l l′ r c k g el ek eg eb = λ i. record { port = record { colours = el i; cursor = ek i; registers = eg i }; display = record { blink = eb i } }
+pub joined-by : (l l′ : List ℕ) (r : Control) (k : Cursor) (g : Registers) (d : Display) → l ≡ l′ → cursorOf (r .cursor) ≡ k → registersOf r ≡ g → displayOf r ≡ d
+    → _≡_ {A = State} (joined l r) (record { port = record { colours = l′; cursor = k; registers = g }; display = d })
+joined-by l l′ r k g d el ek eg ed = λ i. record { port = record { colours = el i; cursor = ek i; registers = eg i }; display = ed i }
 
 -- what is left and answered where it is known what the access asks for
 pub accessed : {before after : State} {x y : Access} {part : List ℕ} → x ≡ y
-    → after ≡ record { port = next (before .port) y; display = before .display } → part ≡ bytesOf (reply (before .port) y) → Accessed before after x part
+    → after ≡ record { port = next (before .port) y; display = before .display } → part ≡ bytesOf (reply (before .port) (before .display) y) → Accessed before after x part
 accessed {before} {after} {x} {y} {part} e s a = record {
   state = s ∙ sym (ap (λ z. record { port = next (before .port) z; display = before .display }) e);
-  answer = a ∙ sym (ap (λ z. bytesOf (reply (before .port) z)) e);
+  answer = a ∙ sym (ap (λ z. bytesOf (reply (before .port) (before .display) z)) e);
 }

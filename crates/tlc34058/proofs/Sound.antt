@@ -1,18 +1,19 @@
 -- A state whose values are at most their places' largest, part by part, and the events that keep it so.
 use Prim.Native.Nat.{ℕ, _+_, _≤_, _%_}
 use mathlib.Core.Path.{_≡_, _∙_}
+use mathlib.Core.List.{List}
 use native.Mathlib.Omega.{arith}
 use lib.Dec.{eqb}
 use lib.ListN.{length, getD}
 use Rattle.laws.proofs.Tests.{cond-all}
-use Rattle.event.specs.Event.{Raw, operandAt}
+use Rattle.event.specs.Event.{Raw, operandAt, bit}
 use Rattle.colour.specs.Colour.{Cursor}
 use Rattle.colour.proofs.Laws as colour
 use Rattle.event.specs.Kinds as kinds
 use Rattle.tlc34058.specs.Facts as facts
-use Rattle.tlc34058.specs.State.{Registers, Port, Display, State}
+use Rattle.tlc34058.specs.State.{Registers, Codes, black, Port, Display, State}
 use Rattle.tlc34058.specs.Port.{Access, refuse, setAddress, setColour, setRegister, getAddress, getColour, getRegister, nothing, accessRefusal, select, request, withRegister, next}
-use Rattle.tlc34058.specs.Tick.{later, displayAfter}
+use Rattle.tlc34058.specs.Tick.{undefinedBits, lastShown, ticked, later, displayAfter}
 
 pub record SoundRegisters (r : Registers) : Type 0 where
   pub readMask : r .readMask ≤ 255
@@ -26,9 +27,21 @@ pub record SoundPort (p : Port) : Type 0 where
   pub cursor : colour.Sound 255 (p .cursor)
   pub registers : SoundRegisters (p .registers)
 
+pub record SoundCodes (c : Codes) : Type 0 where
+  pub red : c .red ≤ facts.largestColour
+  pub green : c .green ≤ facts.largestColour
+  pub blue : c .blue ≤ facts.largestColour
+
+pub record SoundDisplay (d : Display) : Type 0 where
+  pub blink : d .blink ≤ 127
+  pub last : SoundCodes (d .last)
+
 pub record Sound (s : State) : Type 0 where
   pub port : SoundPort (s .port)
-  pub blink : s .display .blink ≤ 127
+  pub display : SoundDisplay (s .display)
+
+pub sound-black : SoundCodes black
+sound-black = record { red = omega arith; green = omega arith; blue = omega arith }
 
 -- the byte that an access stores is a byte
 abbrev pub Byte : Access → Type 0
@@ -87,7 +100,17 @@ sound-next p (getColour e) h v = with-cursor p _ v (colour.sound-onward 255 (p .
 sound-next p (getRegister a) h v = v
 sound-next p nothing h v = v
 
-pub sound-after : (d : Display) (e : Raw) → d .blink ≤ 127 → displayAfter d e .blink ≤ 127
-sound-after d e h =
+sound-ticked : (p : Port) (d : Display) (o : List ℕ) → SoundPort p → SoundDisplay d → SoundDisplay (ticked p d o)
+unfolding ticked lastShown
+sound-ticked p d o v w =
+    cond-all SoundDisplay (undefinedBits o) d _ w
+    (record {
+      blink = w .blink;
+      last = cond-all SoundCodes (bit 0 (getD o 7 0)) _ black (record { red = v .small _; green = v .small _; blue = v .small _ }) sound-black;
+    })
+
+pub sound-after : (p : Port) (d : Display) (e : Raw) → SoundPort p → SoundDisplay d → SoundDisplay (displayAfter p d e)
+sound-after p d e v w =
     let small : (d .blink + 1) % 128 ≤ 127 = omega arith in
-    cond-all (λ x. x .blink ≤ 127) (eqb (e .kind) kinds.vertical) (later d) d small h
+    cond-all SoundDisplay (eqb (e .kind) kinds.tick) (ticked p d (e .operand)) _ (sound-ticked p d (e .operand) v w)
+    (cond-all SoundDisplay (eqb (e .kind) kinds.vertical) (later d) d (record { blink = small; last = w .last }) w)

@@ -1,4 +1,4 @@
--- Document 01's "Painting" of chip 1, said by itself: which accesses alter the display, and a table of accesses that do and that don't. Then document 02's Note 5.
+-- Document 01's "Painting" of chip 1, said by itself: which accesses alter the display, and a table of accesses that do and that don't. Then document 02's Note 5, and the 07h reads of its Note 7.
 use Prim.Native.Nat.{ℕ}
 use mathlib.Core.Bool.{Bool, true, false, not, _&&_, _||_}
 use mathlib.Core.List.{List, [], _∷_}
@@ -10,8 +10,8 @@ use Rattle.event.specs.Event.{Raw}
 use Rattle.event.specs.Painted.{SaysWhatItPaints}
 use Rattle.event.specs.Table.{all, AccessRow, accessBy, agrees, NumberRow, numbers}
 use Rattle.tlc34058.specs.Facts as facts
-use Rattle.tlc34058.specs.State.{Port, State}
-use Rattle.tlc34058.specs.Port.{accessRefusal, select, request, reply, altersDisplay}
+use Rattle.tlc34058.specs.State.{Port, State, fresh}
+use Rattle.tlc34058.specs.Port.{accessRefusal, select, request, reply, altersDisplay, looksAtDisplay}
 use Rattle.tlc34058.specs.Tick.{blinkOn, entryAt}
 use Rattle.tlc34058.specs.Machine.{chip, alters}
 
@@ -33,7 +33,7 @@ at address position = record {
 
 -- an access there
 abbrev pub row : ℕ → ℕ → ℕ → ℕ → Bool → AccessRow Port
-row kind selector address position alters = record { state = at address position; access = accessBy kind selector; alters = alters }
+row kind selector address position holds = record { state = at address position; access = accessBy kind selector; holds = holds }
 
 unfoldable pub table : List (AccessRow Port)
 table =
@@ -90,7 +90,7 @@ numberTable =
     ∷ numbered 2 6 2 262
     ∷ []
 
-pub numberRows : T (all (numbers (λ p e. reply p (request p e))) numberTable)
+pub numberRows : T (all (numbers (λ p e. reply p (fresh .display) (request p e))) numberTable)
 unfolding numberTable request select accessRefusal bytesOf
 numberRows = tt
 
@@ -101,3 +101,32 @@ entryShown s t i = entryAt (s .port .registers) (blinkOn (s .port .registers .co
 -- its writes say what they paint: palette entries and overlays have numbers below 260, registers others
 abbrev pub SaysPainted : Type 0
 SaysPainted = SaysWhatItPaints chip alters facts.entries entryShown
+
+-- ---- document 02's Note 7: which accesses are 07h reads
+
+-- an unrefused control read made at address 07h
+abbrev pub readsTest : ℕ → ℕ → ℕ → Bool
+readsTest kind selector address = eqb kind read && (eqb selector 2 && eqb address 7)
+
+unfoldable pub readTable : List (AccessRow Port)
+readTable =
+    row read 2 7 0 true
+    ∷ row read 2 7 2 true
+    -- the other registers; refused control addresses 3 and 8
+    ∷ row read 2 4 0 false
+    ∷ row read 2 5 0 false
+    ∷ row read 2 6 0 false
+    ∷ row read 2 3 0 false
+    ∷ row read 2 8 0 false
+    -- address 07h through another selector; a write of 07h; a load
+    ∷ row read 0 7 0 false
+    ∷ row read 1 7 0 false
+    ∷ row read 3 7 0 false
+    ∷ row read 4 7 0 false
+    ∷ row write 2 7 0 false
+    ∷ row load 2 7 0 false
+    ∷ []
+
+pub readRows : T (all (agrees (λ p e. looksAtDisplay (request p e))) readTable)
+unfolding readTable request select accessRefusal
+readRows = tt

@@ -1,4 +1,4 @@
--- Document 01's "Chip 1 port": writes and reads through C1 and C0.
+-- Document 01's "Chip 1 port": writes and reads through C1 and C0; reads of the test register are document 02's Note 7.
 use Prim.Native.Nat.{ℕ, _+_}
 use mathlib.Core.Bool.{Bool, false, cond}
 use lib.Dec.{ltb, eqb}
@@ -6,7 +6,8 @@ use Rattle.event.specs.Kinds as kinds
 use Rattle.event.specs.Answer.{Answer, refused, gave, done, written}
 use Rattle.event.specs.Event.{Raw, operandAt}
 use Rattle.colour.specs.Colour.{pointed, onward, held, stored, component}
-use Rattle.tlc34058.specs.State.{Registers, Port}
+use Rattle.tlc34058.specs.State.{Registers, Codes, Port, Display}
+use Rattle.tlc34058.specs.TestRegister.{testRead}
 
 -- What an access asks for, as the selector and the address decide it. A colour is that of an entry: palette entries are 0 to 255, overlays 256 to 259.
 pub data Access : Type 0 where
@@ -51,7 +52,7 @@ request p e =
     (cond (eqb (e .kind) kinds.load) (refuse 5)
     nothing))
 
--- the register at an address from 04h to 07h
+-- the byte that the register at an address from 04h to 07h holds, as it was written
 unfoldable pub register : Registers → ℕ → ℕ
 register r a = cond (eqb a 4) (r .readMask) (cond (eqb a 5) (r .blinkMask) (cond (eqb a 6) (r .command) (r .test)))
 
@@ -61,6 +62,10 @@ withRegister r a b =
     (cond (eqb a 5) (record { readMask = r .readMask; blinkMask = b; command = r .command; test = r .test })
     (cond (eqb a 6) (record { readMask = r .readMask; blinkMask = r .blinkMask; command = b; test = r .test })
     (record { readMask = r .readMask; blinkMask = r .blinkMask; command = r .command; test = b })))
+
+-- what a read of it gives: that byte, but of the test register, 07h, by what the last pixel shown was
+abbrev pub readRegister : Registers → Codes → ℕ → ℕ
+readRegister r last a = cond (eqb a 7) (testRead (r .test) last) (register r a)
 
 -- what an access leaves
 abbrev pub next : Port → Access → Port
@@ -100,16 +105,23 @@ abbrev pub writeReply : Port → Access → Answer
 writeReply p x = written (altersDisplay p x) (paintedNumber x)
 
 -- what an access answers
-abbrev pub reply : Port → Access → Answer
-reply p (refuse n) = refused n
-reply p (setAddress b) = writeReply p (setAddress b)
-reply p (setColour e b) = writeReply p (setColour e b)
-reply p (setRegister a b) = writeReply p (setRegister a b)
-reply p getAddress = gave (p .cursor .address)
-reply p (getColour e) = gave (component (p .colours) (p .cursor) e)
-reply p (getRegister a) = gave (register (p .registers) a)
-reply p nothing = done
+abbrev pub reply : Port → Display → Access → Answer
+reply p d (refuse n) = refused n
+reply p d (setAddress b) = writeReply p (setAddress b)
+reply p d (setColour e b) = writeReply p (setColour e b)
+reply p d (setRegister a b) = writeReply p (setRegister a b)
+reply p d getAddress = gave (p .cursor .address)
+reply p d (getColour e) = gave (component (p .colours) (p .cursor) e)
+reply p d (getRegister a) = gave (readRegister (p .registers) (d .last) a)
+reply p d nothing = done
 
--- no access's answer looks at what display events move
-abbrev pub looksAtDisplay : Port → Access → Bool
-looksAtDisplay p x = false
+-- its answer looks at what display events move: document 02's 07h read, an unrefused one, whatever it selects
+abbrev pub looksAtDisplay : Access → Bool
+looksAtDisplay (refuse n) = false
+looksAtDisplay (setAddress b) = false
+looksAtDisplay (setColour e b) = false
+looksAtDisplay (setRegister a b) = false
+looksAtDisplay getAddress = false
+looksAtDisplay (getColour e) = false
+looksAtDisplay (getRegister a) = eqb a 7
+looksAtDisplay nothing = false

@@ -18,9 +18,19 @@ pub record Port : Type 0 where
   pub cursor : Cursor
   pub registers : Registers
 
--- what display events move
+-- the codes of a pixel, the DACs' inputs
+pub record Codes : Type 0 where
+  pub red : ℕ
+  pub green : ℕ
+  pub blue : ℕ
+
+abbrev pub black : Codes
+black = record { red = 0; green = 0; blue = 0 }
+
+-- what display events move: the blink count and, by document 02's Note 7, the codes of the last pixel shown
 pub record Display : Type 0 where
   pub blink : ℕ
+  pub last : Codes
 
 pub record State : Type 0 where
   pub port : Port
@@ -35,5 +45,5 @@ fresh =
         cursor = record { address = 0; position = 0; heldRed = 0; heldGreen = 0 };
         registers = record { readMask = 0; blinkMask = 0; command = 0; test = 0 };
       };
-      display = record { blink = 0 };
+      display = record { blink = 0; last = black };
     }

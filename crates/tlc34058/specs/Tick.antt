@@ -1,4 +1,4 @@
--- Document 01's "Chip 1 tick" and the vertical period.
+-- Document 01's "Chip 1 tick" and the vertical period; and what a tick leaves for document 02's Note 7.
 use Prim.Native.Nat.{ℕ, zero, suc, _+_, _-_, _*_, _%_}
 use mathlib.Core.Bool.{Bool, not, cond, _&&_, _||_}
 use mathlib.Core.List.{List, [], _∷_, _++_}
@@ -8,7 +8,7 @@ use lib.Bits.{bitAnd}
 use Rattle.event.specs.Kinds as kinds
 use Rattle.event.specs.Answer.{Answer, refused, done, showed}
 use Rattle.event.specs.Event.{Raw, bit}
-use Rattle.tlc34058.specs.State.{Registers, Port, Display}
+use Rattle.tlc34058.specs.State.{Registers, Codes, black, Port, Display}
 
 -- CR7 0: four pixels A to D; CR7 1: five
 abbrev pub pixelCount : ℕ → ℕ
@@ -67,13 +67,30 @@ tick p d o =
     (showed (pixelCount (p .registers .command)) (getD o 7 0)
     (codesUpTo (codeAt (p .colours) (p .registers) (blinkOn (p .registers .command) (d .blink)) (shownPixels (p .registers .command) (getD o 7 0)) o) 5))
 
+-- red, green and blue of an entry
+abbrev pub codesAt : List ℕ → ℕ → Codes
+codesAt colours entry = record { red = getD colours (3 * entry) 0; green = getD colours (3 * entry + 1) 0; blue = getD colours (3 * entry + 2) 0 }
+
+-- the codes of the last pixel shown, in the order A to D or E; a blanked tick counts as black
+unfoldable pub lastShown : Port → Display → List ℕ → Codes
+lastShown p d o =
+    cond (bit 0 (getD o 7 0))
+    (codesAt (p .colours) (entryAt (p .registers) (blinkOn (p .registers .command) (d .blink)) o (pixelCount (p .registers .command) - 1)))
+    black
+
+-- a tick keeps them, a refused one those of before
+unfoldable pub ticked : Port → Display → List ℕ → Display
+ticked p d o = cond (undefinedBits o) d (record { blink = d .blink; last = lastShown p d o })
+
 -- the blink count, 0 to 127, moves on at each vertical period, 127 to 0
 abbrev pub later : Display → Display
-later d = record { blink = (d .blink + 1) % 128 }
+later d = record { blink = (d .blink + 1) % 128; last = d .last }
 
--- a vertical period moves the display, a tick is answered
-abbrev pub displayAfter : Display → Raw → Display
-displayAfter d e = cond (eqb (e .kind) kinds.vertical) (later d) d
+abbrev pub displayAfter : Port → Display → Raw → Display
+displayAfter p d e =
+    cond (eqb (e .kind) kinds.tick) (ticked p d (e .operand))
+    (cond (eqb (e .kind) kinds.vertical) (later d)
+    d)
 
 abbrev pub show : Port → Display → Raw → Answer
 show p d e = cond (eqb (e .kind) kinds.tick) (tick p d (e .operand)) done

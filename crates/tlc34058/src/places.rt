@@ -6,6 +6,7 @@ ghost use Rattle.tlc34058.specs.Facts as facts;
 ghost use Rattle.tlc34058.specs.Places.{placesOf, stateFrom, saved, decodedOrFresh};
 ghost use Rattle.tlc34058.specs.Struct.{joined};
 use crate::COLOURS;
+use crate::Codes;
 use crate::Control;
 use crate::LARGEST_COLOUR;
 use crate::LONGEST_SNAPSHOT;
@@ -33,6 +34,12 @@ const COMMAND: usize = COLOURS + 6;
 const TEST: usize = COLOURS + 7;
 
 const BLINK: usize = COLOURS + 8;
+
+const LAST_RED: usize = COLOURS + 9;
+
+const LAST_GREEN: usize = COLOURS + 10;
+
+const LAST_BLUE: usize = COLOURS + 11;
 
 // The largest value of each place.
 pub fn largest() -> [u8; PLACES]
@@ -62,6 +69,10 @@ pub fn places_of(colours: &[u8], c: Control) -> [u8; PLACES]
     places[COMMAND] = c.command;
     places[TEST] = c.test;
     places[BLINK] = c.blink;
+    let last = c.last;
+    places[LAST_RED] = last.red;
+    places[LAST_GREEN] = last.green;
+    places[LAST_BLUE] = last.blue;
     places
 }
 
@@ -81,6 +92,11 @@ pub fn control_from(places: [u8; PLACES]) -> Control
         command: places[COMMAND],
         test: places[TEST],
         blink: places[BLINK],
+        last: Codes {
+            red: places[LAST_RED],
+            green: places[LAST_GREEN],
+            blue: places[LAST_BLUE],
+        },
     }
 }
 

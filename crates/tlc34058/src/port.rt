@@ -7,9 +7,10 @@ ghost use lib.ListN.{length};
 ghost use Rattle.event.specs.Answer.{gave, done, written, answerLong, bytesOf};
 ghost use Rattle.colour.specs.Struct.{cursorOf};
 ghost use Rattle.tlc34058.specs.Facts as facts;
-ghost use Rattle.tlc34058.specs.Port.{accessRefusal, writing, reading, next, reply, register as registerAt, withRegister};
-ghost use Rattle.tlc34058.specs.Struct.{registersOf, joined, Accessed};
+ghost use Rattle.tlc34058.specs.Port.{accessRefusal, writing, reading, next, reply, register as registerAt, readRegister, withRegister};
+ghost use Rattle.tlc34058.specs.Struct.{registersOf, displayOf, joined, Accessed};
 use crate::Control;
+use crate::test_register;
 use colour::Cursor;
 use counters::Address;
 
@@ -39,8 +40,9 @@ fn access_refusal(selector: u8, address: u8) -> u8
 }
 
 fn with_cursor(c: Control, cursor: Cursor) -> Control
-    ensures { λ r. ⌜ (cursorOf (r .cursor) ≡ cursorOf cursor) × (registersOf r ≡ registersOf c) × (r .blink ≡ c .blink) ⌝ }
+    ensures { λ r. ⌜ (cursorOf (r .cursor) ≡ cursorOf cursor) × (registersOf r ≡ registersOf c) × (displayOf r ≡ displayOf c) ⌝ }
 {
+    let last = c.last;
     Control {
         cursor,
         read_mask: c.read_mask,
@@ -48,10 +50,11 @@ fn with_cursor(c: Control, cursor: Cursor) -> Control
         command: c.command,
         test: c.test,
         blink: c.blink,
+        last,
     }
 }
 
-// The register at an address from 04h to 07h.
+// The byte that the register at an address from 04h to 07h holds.
 fn register(c: Control, address: u8) -> u8
     ensures { λ r. ⌜ r ≡ registerAt (registersOf c) address ⌝ }
 {
@@ -67,8 +70,18 @@ fn register(c: Control, address: u8) -> u8
     c.test
 }
 
+// What a read of it gives.
+fn read_register(c: Control, address: u8) -> u8
+    ensures { λ r. ⌜ r ≡ readRegister (registersOf c) (displayOf c .last) address ⌝ }
+{
+    if address == 7 {
+        return test_register::read(c.test, c.last);
+    }
+    register(c, address)
+}
+
 fn set_register(c: Control, address: u8, byte: u8) -> Control
-    ensures { λ r. ⌜ (cursorOf (r .cursor) ≡ cursorOf (c .cursor)) × (registersOf r ≡ withRegister (registersOf c) address byte) × (r .blink ≡ c .blink) ⌝ }
+    ensures { λ r. ⌜ (cursorOf (r .cursor) ≡ cursorOf (c .cursor)) × (registersOf r ≡ withRegister (registersOf c) address byte) × (displayOf r ≡ displayOf c) ⌝ }
 {
     let mut next = c;
     if address == 4 {
@@ -90,7 +103,7 @@ fn set_register(c: Control, address: u8, byte: u8) -> Control
 // A control write at an address from 04h to 07h. No tick sees 07h, so its write paints nothing.
 fn write_register(c: Control, address: u8, byte: u8, part: &mut [u8]) -> Control
     requires { ⌜ now part ≡ bytesOf done ⌝ }
-    ensures { λ r. ⌜ (cursorOf (r .cursor) ≡ cursorOf (c .cursor)) × (registersOf r ≡ withRegister (registersOf c) address byte) × (r .blink ≡ c .blink) × (now (part .exit) ≡ bytesOf (written (ltb address 7) (256 + address))) ⌝ }
+    ensures { λ r. ⌜ (cursorOf (r .cursor) ≡ cursorOf (c .cursor)) × (registersOf r ≡ withRegister (registersOf c) address byte) × (displayOf r ≡ displayOf c) × (now (part .exit) ≡ bytesOf (written (ltb address 7) (256 + address))) ⌝ }
 {
     if address < 7 {
         event::put_painted(part, 256 + bytes::wide(address));
@@ -126,7 +139,7 @@ pub fn write(colours: &mut [u8], c: Control, selector: u8, byte: u8, part: &mut 
 // The byte that a read gives where it isn't refused.
 fn value(colours: &[u8], c: Control, selector: u8) -> u8
     requires { ⌜ (length (now colours) ≡ facts.colours) × (c .cursor .position .0 ≤ 2) × (accessRefusal selector (c .cursor .address .0) ≡ 0) ⌝ }
-    ensures { λ r. ⌜ gave r ≡ reply (joined (now (colours .entry)) c .port) (reading (c .cursor .address .0) selector) ⌝ }
+    ensures { λ r. ⌜ gave r ≡ reply (joined (now (colours .entry)) c .port) (displayOf c) (reading (c .cursor .address .0) selector) ⌝ }
 {
     let cursor = c.cursor;
     let address = cursor.address;
@@ -140,7 +153,7 @@ fn value(colours: &[u8], c: Control, selector: u8) -> u8
     if selector == 3 {
         return cursor.read(colours, 256 + bytes::wide(at));
     }
-    register(c, at)
+    read_register(c, at)
 }
 
 // What a read leaves where it isn't refused: the position is 0 after an address read, and moves on after a colour read.

@@ -1,23 +1,17 @@
 // A tick: the selection of each pixel's entry, and the codes written straight into the answer's part.
 ghost use mathlib.Core.Path.{_≡_};
 ghost use mathlib.Core.Bool.{not, _&&_, _||_};
-ghost use mathlib.Core.List.{_++_};
-ghost use Prim.Native.Nat.{_+_, _≤_, _<_};
-ghost use lib.ListN.{length, take};
-ghost use Rattle.event.specs.Answer.{answerLong, bytesOf};
+ghost use mathlib.Core.List.{List, _++_};
+ghost use Prim.Native.Nat.{ℕ, _+_, _*_, _≤_, _<_};
+ghost use lib.ListN.{length, getD, take};
+ghost use Rattle.event.specs.Answer.{answerLong};
 ghost use Rattle.tlc34058.specs.Facts as facts;
-ghost use Rattle.tlc34058.specs.Tick.{pixelCount, blinkOn, entryOf, codeOf, codeAt, codesUpTo, shownPixels, undefinedBits, tick};
+ghost use Rattle.tlc34058.specs.Tick.{pixelCount, blinkOn, entryOf, codeOf, codeAt, codesUpTo, shownPixels, undefinedBits};
 ghost use Rattle.tlc34058.specs.Selection.{pixelOf, afterReadMask, afterBlinkMask, afterOverlayEnables, afterOverlayBlink, overlayNumber, entryByRamEnable};
-ghost use Rattle.tlc34058.specs.Struct.{registersOf, joined};
+ghost use Rattle.tlc34058.specs.Struct.{registersOf, codesOf, joined, Ticked};
 ghost use Rattle.tlc34058.specs.Codes.{CodesAre};
+use crate::Codes;
 use crate::Control;
-
-// The three codes of a pixel.
-struct Codes {
-    red: u8,
-    green: u8,
-    blue: u8,
-}
 
 // The blink phase: whether what blinks is shown.
 fn blink_on(command: u8, n: u8) -> bool
@@ -256,19 +250,42 @@ fn shown_pixels(command: u8, levels: u8) -> usize
     0
 }
 
-// A tick's answer over an event's part of the answer buffer.
-pub fn put_tick(part: &mut [u8], colours: &[u8], c: Control, operand: [u8; 8])
+fn with_last(c: Control, last: Codes) -> Control
+    ensures { λ r. ⌜ ((l : List ℕ) → joined l r ≡ record { port = joined l c .port; display = record { blink = c .blink; last = codesOf last } }) ⌝ }
+{
+    let mut next = c;
+    next.last = last;
+    next
+}
+
+// The codes that a tick's answer has for the last of count pixels: it has black for a pixel that isn't shown.
+fn last_codes(part: &[u8], count: usize) -> Codes
+    requires { ⌜ (length (now part) ≡ answerLong) × (count ≤ 5) ⌝ }
+    ensures { λ r. ⌜ CodesAre (λ k. getD (now (part .entry)) (3 * count + k) 0) r ⌝ }
+{
+    let at = 3 * count;
+    Codes {
+        red: part[at],
+        green: part[at + 1],
+        blue: part[at + 2],
+    }
+}
+
+// A tick's answer over an event's part of the answer buffer; what the tick leaves has its last pixel's codes.
+pub fn put_tick(part: &mut [u8], colours: &[u8], c: Control, operand: [u8; 8]) -> Control
     requires { ⌜ (length (now part) ≡ answerLong) × (length (now colours) ≡ facts.colours) ⌝ }
-    ensures { λ _. ⌜ now (part .exit) ≡ bytesOf (tick (joined (now (colours .entry)) c .port) (joined (now (colours .entry)) c .display) operand) ⌝ }
+    ensures { λ r. ⌜ Ticked (joined (now (colours .entry)) c) (joined (now (colours .entry)) r) operand (now (part .exit)) ⌝ }
 {
     if undefined_bits(operand) {
         event::put_answer(part, 4, 0);
-        return;
+        return c;
     }
+    let count = pixel_count(c.command);
     part[0] = 0;
-    part[1] = pixel_count(c.command);
+    part[1] = count;
     part[2] = operand[7];
     let on = blink_on(c.command, c.blink);
     let n = shown_pixels(c.command, operand[7]);
     put_pixels(part, colours, c, operand, on, n);
+    with_last(c, last_codes(part, bytes::wide(count)))
 }

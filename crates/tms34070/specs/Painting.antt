@@ -19,7 +19,7 @@ abbrev pub row : ℕ → ℕ → ℕ → ℕ → Bool → AccessRow Port
 row kind da db position alters = record {
   state = record { values = replicate facts.values 0; position = position; heldRed = 0; heldAttributes = 0 };
   access = record { kind = kind; operand = da ∷ db ∷ replicate 6 0 };
-  alters = alters;
+  holds = alters;
 }
 
 unfoldable pub table : List (AccessRow Port)

@@ -32,6 +32,15 @@ array-read-t29 c = search needs
 array-read-t32 : tie.Need-array-read-t32
 array-read-t32 c = search needs
 
+array-read-t35 : tie.Need-array-read-t35
+array-read-t35 c = search needs
+
+array-read-t38 : tie.Need-array-read-t38
+array-read-t38 c = search needs
+
+array-read-t41 : tie.Need-array-read-t41
+array-read-t41 c = search needs
+
 returns : tie.Need-returns
 unfolding stateFrom
 returns c = refl
@@ -49,4 +58,7 @@ control-from-spec =
     array-read-t26
     array-read-t29
     array-read-t32
+    array-read-t35
+    array-read-t38
+    array-read-t41
     returns)

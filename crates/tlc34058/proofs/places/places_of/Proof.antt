@@ -46,12 +46,21 @@ array-write-places-8 c = search needs
 array-write-places-9 : tie.Need-array-write-places-9
 array-write-places-9 c = search needs
 
+array-write-places-10 : tie.Need-array-write-places-10
+array-write-places-10 c = search needs
+
+array-write-places-11 : tie.Need-array-write-places-11
+array-write-places-11 c = search needs
+
+array-write-places-12 : tie.Need-array-write-places-12
+array-write-places-12 c = search needs
+
 returns : tie.Need-returns
 unfolding placesOf
 returns c =
-    let args = c .before .before .before .before .before .before .before .args in
-    let pre = c .before .before .before .before .before .before .before .pre in
-    let copy = c .before .before .before .before .copy in
+    let args = c .before .before .before .before .before .before .before .before .args in
+    let pre = c .before .before .before .before .before .before .before .before .pre in
+    let copy = c .before .before .before .before .before .copy in
     let s = joined (now (args .colours)) (args .c) in
     ap (λ (l : List ℕ). sets l facts.colours (tailOf s)) (copy .ensures) ∙ stored-behind (now (args .colours)) (replicate facts.places 0) (tailOf s) facts.colours pre refl
 
@@ -70,4 +79,7 @@ places-of-spec =
     array-write-places-7
     array-write-places-8
     array-write-places-9
+    array-write-places-10
+    array-write-places-11
+    array-write-places-12
     returns)

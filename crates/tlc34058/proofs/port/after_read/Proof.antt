@@ -20,7 +20,7 @@ returns c =
     let if1 = c .before .before .if1 in
     let with-cursor = c .with-cursor in
     let point = c .before .point in
-    λ l. joined-by l l _ (args .c) _ _ refl (with-cursor .ensures .0 ∙ point .ensures) (with-cursor .ensures .1) (with-cursor .ensures .2)
+    λ l. joined-by l l _ _ _ _ refl (with-cursor .ensures .0 ∙ point .ensures) (with-cursor .ensures .1) (with-cursor .ensures .2)
     ∙ sym (ap (λ x. record { port = next (joined l (args .c) .port) x; display = joined l (args .c) .display }) (read-address _ _ pre (if1 .taken)))
 
 next-requires : tie.Need-next-requires
@@ -37,7 +37,7 @@ returns-2 c =
     let if2 = c .before .before .if2 in
     let with-cursor2 = c .with-cursor2 in
     let next2 = c .before .next in
-    λ l. joined-by l l _ (args .c) _ _ refl (with-cursor2 .ensures .0 ∙ next2 .ensures) (with-cursor2 .ensures .1) (with-cursor2 .ensures .2)
+    λ l. joined-by l l _ _ _ _ refl (with-cursor2 .ensures .0 ∙ next2 .ensures) (with-cursor2 .ensures .1) (with-cursor2 .ensures .2)
     ∙ sym (ap (λ x. record { port = next (joined l (args .c) .port) x; display = joined l (args .c) .display }) (read-palette _ _ pre (if1 .left) (if2 .taken)))
 
 next-requires-2 : tie.Need-next-requires-2
@@ -55,7 +55,7 @@ returns-3 c =
     let if3 = c .before .before .if3 in
     let with-cursor3 = c .with-cursor3 in
     let next3 = c .before .next2 in
-    λ l. joined-by l l _ (args .c) _ _ refl (with-cursor3 .ensures .0 ∙ next3 .ensures) (with-cursor3 .ensures .1) (with-cursor3 .ensures .2)
+    λ l. joined-by l l _ _ _ _ refl (with-cursor3 .ensures .0 ∙ next3 .ensures) (with-cursor3 .ensures .1) (with-cursor3 .ensures .2)
     ∙ sym (ap (λ x. record { port = next (joined l (args .c) .port) x; display = joined l (args .c) .display }) (read-overlay _ _ pre (if1 .left) (if2 .left) (if3 .taken)))
 
 returns-4 : tie.Need-returns-4

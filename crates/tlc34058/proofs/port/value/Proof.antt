@@ -1,9 +1,9 @@
 -- `value` meets its contract.
 use Rattle.colour.specs.Colour.{component}
 use Rattle.event.specs.Answer.{gave}
-use Rattle.tlc34058.proofs.Selected.{read-address, read-palette, read-overlay, read-register, overlay-low}
-use Rattle.tlc34058.specs.Struct.{joined}
-use Rattle.tlc34058.specs.Port.{reply, register}
+use Rattle.tlc34058.proofs.Selected.{read-address, read-palette, read-overlay, read-register as read-control, overlay-low}
+use Rattle.tlc34058.specs.Struct.{displayOf, joined}
+use Rattle.tlc34058.specs.Port.{reply}
 use denote.Ref.{now}
 use native.Mathlib.Omega.{arith}
 use mathlib.Core.Path.{sym, _∙_, ap}
@@ -17,7 +17,7 @@ returns c =
     let args = c .before .before .before .before .args in
     let pre = c .before .before .before .before .pre in
     let if1 = c .if1 in
-    sym (ap (reply (joined (now (args .colours)) (args .c) .port)) (read-address _ _ (pre .2) (if1 .taken)))
+    sym (ap (reply (joined (now (args .colours)) (args .c) .port) (displayOf (args .c))) (read-address _ _ (pre .2) (if1 .taken)))
 
 wide-requires : tie.Need-wide-requires
 wide-requires c κs = search needs
@@ -34,7 +34,7 @@ returns-2 c =
     let read = c .read in
     let wide = c .before .wide in
     let p = joined (now (args .colours)) (args .c) .port in
-    ap gave (read .ensures ∙ ap (λ e. component (p .colours) (p .cursor) e) (wide .ensures .0)) ∙ sym (ap (reply p) (read-palette _ _ (pre .2) (if1 .left) (if2 .taken)))
+    ap gave (read .ensures ∙ ap (λ e. component (p .colours) (p .cursor) e) (wide .ensures .0)) ∙ sym (ap (reply p (displayOf (args .c))) (read-palette _ _ (pre .2) (if1 .left) (if2 .taken)))
 
 wide-requires-2 : tie.Need-wide-requires-2
 wide-requires-2 c κs = search needs
@@ -60,10 +60,10 @@ returns-3 c =
     let read2 = c .read2 in
     let wide2 = c .before .wide2 in
     let p = joined (now (args .colours)) (args .c) .port in
-    ap gave (read2 .ensures ∙ ap (λ e. component (p .colours) (p .cursor) (256 + e)) (wide2 .ensures .0)) ∙ sym (ap (reply p) (read-overlay _ _ (pre .2) (if1 .left) (if2 .left) (if3 .taken)))
+    ap gave (read2 .ensures ∙ ap (λ e. component (p .colours) (p .cursor) (256 + e)) (wide2 .ensures .0)) ∙ sym (ap (reply p (displayOf (args .c))) (read-overlay _ _ (pre .2) (if1 .left) (if2 .left) (if3 .taken)))
 
-register-requires : tie.Need-register-requires
-register-requires c κs = search needs
+read-register-requires : tie.Need-read-register-requires
+read-register-requires c κs = search needs
 
 returns-4 : tie.Need-returns-4
 returns-4 c =
@@ -72,8 +72,8 @@ returns-4 c =
     let if1 = c .before .before .before .if1 in
     let if2 = c .before .before .if2 in
     let if3 = c .before .if3 in
-    let register = c .register in
-    ap gave (register .ensures) ∙ sym (ap (reply (joined (now (args .colours)) (args .c) .port)) (read-register _ _ (pre .2) (if1 .left) (if2 .left) (if3 .left)))
+    let read-register = c .read-register in
+    ap gave (read-register .ensures) ∙ sym (ap (reply (joined (now (args .colours)) (args .c) .port) (displayOf (args .c))) (read-control _ _ (pre .2) (if1 .left) (if2 .left) (if3 .left)))
 
 pub value-spec : {M : Type 1} → statement M
 value-spec =
@@ -87,5 +87,5 @@ value-spec =
     add-read
     read-requires-2
     returns-3
-    register-requires
+    read-register-requires
     returns-4)

@@ -51,7 +51,7 @@ returns-2 c =
     let point = c .before .point in
     let s = joined (now (args .colours)) (args .c) in
     let asked = write-address _ _ (args .byte) (sym (access-refusal .ensures) ∙ if1 .left) (if2 .taken) in
-    accessed asked (joined-by (now (args .colours)) (now (args .colours)) _ (args .c) _ _ refl (with-cursor .ensures .0 ∙ point .ensures) (with-cursor .ensures .1) (with-cursor .ensures .2)) (accepted-bytes (put-answer .ensures) (if1 .left))
+    accessed asked (joined-by (now (args .colours)) (now (args .colours)) _ _ _ _ refl (with-cursor .ensures .0 ∙ point .ensures) (with-cursor .ensures .1) (with-cursor .ensures .2)) (accepted-bytes (put-answer .ensures) (if1 .left))
 
 wide-requires : tie.Need-wide-requires
 wide-requires c κs = search needs
@@ -87,7 +87,7 @@ returns-3 c =
     let asked = write-palette _ _ (args .byte) (sym (access-refusal .ensures) ∙ if1 .left) (if2 .left) (if3 .taken) in
     let stores = write .ensures .1 ∙ ap (λ e. stored (now (args .colours)) (s .port .cursor) e (args .byte)) (wide .ensures .0) in
     let says = write .ensures .2 ∙ ap (λ e. bytesOf (wrote (s .port .cursor) e)) (wide .ensures .0) in
-    accessed asked (joined-by _ _ _ (args .c) _ _ stores (with-cursor2 .ensures .0 ∙ write .ensures .0) (with-cursor2 .ensures .1) (with-cursor2 .ensures .2)) says
+    accessed asked (joined-by _ _ _ _ _ _ stores (with-cursor2 .ensures .0 ∙ write .ensures .0) (with-cursor2 .ensures .1) (with-cursor2 .ensures .2)) says
 
 wide-requires-2 : tie.Need-wide-requires-2
 wide-requires-2 c κs = search needs
@@ -114,7 +114,7 @@ same-length-5 : tie.Need-same-length-5
 same-length-5 c = search needs
 
 same-length-6 : tie.Need-same-length-6
-same-length-6 c = search needs
+same-length-6 c = c .before .before .part3 .given ∙ c .before .before .before .before .before .before .before .before .before .before .before .before .before .before .part .given
 
 returns-4 : tie.Need-returns-4
 returns-4 c =
@@ -131,7 +131,7 @@ returns-4 c =
     let asked = write-overlay _ _ (args .byte) (sym (access-refusal .ensures) ∙ if1 .left) (if2 .left) (if3 .left) (if4 .taken) in
     let stores = write2 .ensures .1 ∙ ap (λ e. stored (now (args .colours)) (s .port .cursor) (256 + e) (args .byte)) (wide2 .ensures .0) in
     let says = write2 .ensures .2 ∙ ap (λ e. bytesOf (wrote (s .port .cursor) (256 + e))) (wide2 .ensures .0) in
-    accessed asked (joined-by _ _ _ (args .c) _ _ stores (with-cursor3 .ensures .0 ∙ write2 .ensures .0) (with-cursor3 .ensures .1) (with-cursor3 .ensures .2)) says
+    accessed asked (joined-by _ _ _ _ _ _ stores (with-cursor3 .ensures .0 ∙ write2 .ensures .0) (with-cursor3 .ensures .1) (with-cursor3 .ensures .2)) says
 
 write-register-requires : tie.Need-write-register-requires
 write-register-requires c κs =
@@ -153,7 +153,7 @@ returns-5 c =
     let write-register = c .before .before .write-register in
     let s = joined (now (args .colours)) (args .c) in
     let asked = write-control _ _ (args .byte) (sym (access-refusal .ensures) ∙ if1 .left) (if2 .left) (if3 .left) (if4 .left) in
-    accessed asked (joined-by (now (args .colours)) (now (args .colours)) _ (args .c) _ _ refl (write-register .ensures .0) (write-register .ensures .1) (write-register .ensures .2)) (write-register .ensures .3)
+    accessed asked (joined-by (now (args .colours)) (now (args .colours)) _ _ _ _ refl (write-register .ensures .0) (write-register .ensures .1) (write-register .ensures .2)) (write-register .ensures .3)
 
 pub write-spec : {M : Type 1} → statement M
 write-spec =

@@ -1,8 +1,8 @@
 -- `put_tick` meets its contract.
 use Rattle.event.proofs.Laws.{refused-bytes}
-use Rattle.tlc34058.proofs.Pixels.{ticked}
+use Rattle.tlc34058.proofs.Pixels.{few-pixels, shown-tick}
 use Rattle.tlc34058.specs.Struct.{joined}
-use Rattle.tlc34058.specs.Tick.{tick}
+use Rattle.tlc34058.specs.Tick.{tick, ticked}
 use denote.Ref.{now}
 use lib.ListN.{length, length-set}
 use native.Mathlib.Omega.{arith}
@@ -22,18 +22,19 @@ same-length : tie.Need-same-length
 same-length c = search needs
 
 returns : tie.Need-returns
-unfolding tick
+unfolding tick ticked
 returns c =
     let undefined-bits = c .before .before .before .before .before .undefined-bits in
     let if1 = c .before .before .before .before .if1 in
     let put-answer = c .before .before .put-answer in
-    put-answer .ensures ∙ refused-bytes 4 ∙ sym (simp (sym (undefined-bits .ensures) ∙ if1 .taken))
-
-slice-write-part : tie.Need-slice-write-part
-slice-write-part c = search needs
+    let undefined = sym (undefined-bits .ensures) ∙ if1 .taken in
+    record { state = sym (simp undefined); answer = put-answer .ensures ∙ refused-bytes 4 ∙ sym (simp undefined) }
 
 pixel-count-requires : tie.Need-pixel-count-requires
 pixel-count-requires c κs = search needs
+
+slice-write-part : tie.Need-slice-write-part
+slice-write-part c = search needs
 
 slice-write-part-2 : tie.Need-slice-write-part-2
 slice-write-part-2 c = search needs
@@ -56,21 +57,41 @@ shown-pixels-requires c κs = search needs
 put-pixels-requires : tie.Need-put-pixels-requires
 put-pixels-requires c κs = search needs
 
+wide-requires : tie.Need-wide-requires
+wide-requires c κs = search needs
+
+last-codes-requires : tie.Need-last-codes-requires
+last-codes-requires c κs =
+    let args = c .before .before .before .before .before .before .before .before .before .before .before .before .before .args in
+    let pre = c .before .before .before .before .before .before .before .before .before .before .before .before .before .pre in
+    let pixel-count = c .before .before .before .before .before .before .before .before .pixel-count in
+    let part2 = c .before .before .before .part2 in
+    let wide = c .wide in
+    (part2 .given ∙ simp length-set (pre .0), omega (arith, few-pixels (args .c .command), pixel-count .ensures, wide .ensures .0))
+
+with-last-requires : tie.Need-with-last-requires
+with-last-requires c κs = search needs
+
 same-length-2 : tie.Need-same-length-2
-same-length-2 c = c .before .part2 .given ∙ simp length-set
+same-length-2 c = c .before .before .before .before .before .part2 .given ∙ simp length-set
 
 returns-2 : tie.Need-returns-2
 returns-2 c =
-    let args = c .before .before .before .before .before .before .before .before .before .before .before .args in
-    let undefined-bits = c .before .before .before .before .before .before .before .before .undefined-bits in
-    let if1 = c .before .before .before .before .before .before .before .if1 in
-    let pixel-count = c .before .before .before .before .before .before .pixel-count in
-    let blink-on = c .before .before .before .before .before .blink-on in
-    let shown-pixels = c .before .before .before .before .shown-pixels in
-    let put-pixels = c .before .before .put-pixels in
+    let args = c .before .before .before .before .before .before .before .before .before .before .before .before .before .before .before .args in
+    let undefined-bits = c .before .before .before .before .before .before .before .before .before .before .before .before .undefined-bits in
+    let if1 = c .before .before .before .before .before .before .before .before .before .before .before .if1 in
+    let pixel-count = c .before .before .before .before .before .before .before .before .before .before .pixel-count in
+    let blink-on = c .before .before .before .before .before .before .before .before .before .blink-on in
+    let shown-pixels = c .before .before .before .before .before .before .before .before .shown-pixels in
+    let put-pixels = c .before .before .before .before .before .before .put-pixels in
+    let wide = c .before .before .wide in
+    let last-codes = c .before .last-codes in
+    let with-last = c .with-last in
     let s = joined (now (args .colours)) (args .c) in
-    let long : 3 ≤ length (now (args .part)) = omega arith in
-    ticked (s .port) (s .display) (args .t4) (now (args .part)) _ _ _ _ (sym (undefined-bits .ensures) ∙ if1 .left) long (pixel-count .ensures) (blink-on .ensures) (shown-pixels .ensures) (put-pixels .ensures)
+    let pre = c .before .before .before .before .before .before .before .before .before .before .before .before .before .before .before .pre in
+    let long : 3 ≤ length (now (args .part)) = omega (arith, pre .0) in
+    shown-tick (s .port) (s .display) (args .t4) (now (args .part)) _ _ _ _ (sym (undefined-bits .ensures) ∙ if1 .left) long (pixel-count .ensures) (blink-on .ensures) (shown-pixels .ensures) (put-pixels .ensures)
+    _ _ _ (wide .ensures .0) (last-codes .ensures) (with-last .ensures (now (args .colours)))
 
 pub put-tick-spec : {M : Type 1} → statement M
 put-tick-spec =
@@ -80,8 +101,8 @@ put-tick-spec =
     put-answer-requires
     same-length
     returns
-    slice-write-part
     pixel-count-requires
+    slice-write-part
     slice-write-part-2
     array-read-part
     slice-write-part-3
@@ -89,5 +110,8 @@ put-tick-spec =
     array-read-shown-pixels
     shown-pixels-requires
     put-pixels-requires
+    wide-requires
+    last-codes-requires
+    with-last-requires
     same-length-2
     returns-2)

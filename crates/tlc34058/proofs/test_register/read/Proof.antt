@@ -1,0 +1,23 @@
+-- `read` meets its contract.
+use Rattle.tlc34058.specs.TestRegister.{testRead}
+use borrow.Author.Needs.{needs}
+use mathlib.Core.Path.{ap}
+use Prim.Native.Nat.{_+_, _*_, _%_}
+use Rattle.tlc34058.proofs.test_register.read.Statement.{statement}
+use Rattle.tlc34058.proofs.test_register.read.Tie as tie
+
+dac-input-requires : tie.Need-dac-input-requires
+dac-input-requires c κs = search needs
+
+mul-result : tie.Need-mul-result
+mul-result c = search needs
+
+add-result : tie.Need-add-result
+add-result c = search needs
+
+returns : tie.Need-returns
+unfolding testRead
+returns c = ap (λ n. c .before .args .test % 16 + 16 * n) (c .dac-input .ensures .0)
+
+pub read-spec : {M : Type 1} → statement M
+read-spec = tie.close (tie.spec dac-input-requires mul-result add-result returns)

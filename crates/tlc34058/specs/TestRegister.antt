@@ -1,0 +1,22 @@
+-- Document 02's Note 7: what a read of the test register, 07h, gives, as source document 000's Table 8 has it.
+use Prim.Native.Nat.{ℕ, _+_, _*_, _/_, _%_}
+use mathlib.Core.Bool.{cond}
+use lib.Dec.{eqb}
+use Rattle.event.specs.Event.{bit}
+use Rattle.tlc34058.specs.State.{Codes}
+
+-- half of a code: bit 3 set means the low half
+abbrev pub half : ℕ → ℕ → ℕ
+half test code = cond (bit 3 test) (code % 16) (code / 16)
+
+-- half of the code that bit 0 (red), bit 1 (green) or bit 2 (blue) selects; 0 unless exactly one of them is set
+unfoldable pub dacInput : ℕ → Codes → ℕ
+dacInput test last =
+    cond (eqb (test % 8) 1) (half test (last .red))
+    (cond (eqb (test % 8) 2) (half test (last .green))
+    (cond (eqb (test % 8) 4) (half test (last .blue))
+    0))
+
+-- the low four bits of the byte written and, in bits 4 to 7, that half
+unfoldable pub testRead : ℕ → Codes → ℕ
+testRead test last = test % 16 + 16 * dacInput test last

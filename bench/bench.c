@@ -80,13 +80,15 @@ static unsigned below(unsigned limit)
     return (unsigned)(next_random() % limit);
 }
 
-/* Registers that show the colours. */
+/* Registers that show the colours; the last pixel shown was entry 0. */
 static void make_tlc34058_registers(uint8_t *places)
 {
     places[784] = 255;
     places[785] = (uint8_t)below(256);
     places[786] = (uint8_t)(0x43 + (below(2) << 7));
+    places[787] = 1; /* a read of the test register gives red's high half */
     places[788] = (uint8_t)below(128);
+    memcpy(places + 789, places, 3);
 }
 
 static void make_hd153129_registers(uint8_t *places)

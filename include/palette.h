@@ -19,7 +19,7 @@ extern "C" {
 
 /* The version: three numbers for #if, and the text "major.minor.patch". */
 #define PALETTE_VERSION_MAJOR 0
-#define PALETTE_VERSION_MINOR 6
+#define PALETTE_VERSION_MINOR 7
 #define PALETTE_VERSION_PATCH 0
 #define PALETTE_VERSION                                                        \
     PALETTE_VERSION_TEXT(PALETTE_VERSION_MAJOR, PALETTE_VERSION_MINOR,         \
@@ -64,13 +64,21 @@ enum palette_kind {
 /* How long a snapshot of so many places is. */
 #define PALETTE_SNAPSHOT_BYTES(places)                                         \
     (PALETTE_SNAPSHOT_HEADER_BYTES + PALETTE_PLACE_BYTES * (size_t)(places))
-/* How many places each chip has, and the most that any chip has. */
-#define PALETTE_TLC34058_PLACES 789
+/* How many places each chip has, and the most that any chip has. A TLC34058's last
+ * three, 789 to 791, are red, green and blue of the last pixel that it showed. A
+ * library before version 0.7.0 has no such places: it refuses a snapshot that
+ * names one with PALETTE_REFUSED_SNAPSHOT_PLACE, or for more than 789 places with
+ * PALETTE_REFUSED_SNAPSHOT_COUNT. Older snapshots mean what they meant, the last
+ * pixel being black. */
+#define PALETTE_TLC34058_PLACES 792
 #define PALETTE_HD153129_PLACES 774
 #define PALETTE_TMS34070_PLACES 86
 #define PALETTE_MOST_PLACES PALETTE_TLC34058_PLACES
 /* The smallest end buffer that is accepted, whatever snapshot it will hold:
- * 2,370 bytes, the longest snapshot of any chip. */
+ * 2,379 bytes, the longest snapshot of any chip. In a program that was compiled
+ * with a header before version 0.7.0 it has 2,370 bytes, and until the program is
+ * compiled again this library refuses with PALETTE_REFUSED_END_BUFFER every run and
+ * every call for currents that it would accept otherwise, whatever the chip. */
 #define PALETTE_END_BYTES                                                      \
     (PALETTE_SNAPSHOT_HEADER_BYTES + PALETTE_PLACE_BYTES * PALETTE_MOST_PLACES)
 
@@ -103,6 +111,14 @@ enum palette_kind {
  * and the number of what it painted in bytes 2 and 3, low byte first. A tick has
  * its number of pixels in byte 1, its levels in byte 2, and red, green and blue
  * of each pixel from byte 3. Every other byte is 0.
+ *
+ * A TLC34058's test register (control register 07h) reads the DAC inputs: bits 0
+ * to 3 are as they were written, and bits 4 to 7 are half of a code of the last
+ * pixel shown, red if of bits 0 to 2 just bit 0 is set, green if just bit 1, blue
+ * if just bit 2, the low half if bit 3 is set and the high half if it isn't; in
+ * any other case they are 0. The last pixel is D, or E in a tick of five; a blanked
+ * tick leaves black, and a refused one changes nothing. A library before version
+ * 0.7.0 reads back the byte written.
  *
  * A TMS34070's tick has two pixels, DA and DB, with codes of 4 bits, and in byte
  * 2 DATEN (bit 0) and the EXT bits of DA (bit 1) and of DB (bit 2); with DATEN

@@ -10,7 +10,9 @@
  * must be refused. Then the currents of a tick are asked for, whole and with
  * shorter strings alike; of another chip than a TLC34058 they are refused. So
  * are the writes to a wanted table in which every colour differs from the
- * snapshot's; of another chip than an HD153129 they are refused.
+ * snapshot's; of another chip than an HD153129 they are refused. At last a
+ * log that reads the test register is run from a TLC34058's longest snapshot of a
+ * version before 0.7.0, which has no last pixel.
  */
 #define _DEFAULT_SOURCE
 
@@ -191,6 +193,63 @@ static unsigned plan_all(const struct input *snapshot, bool behind)
     return wrong;
 }
 
+/* Every place holds 1, but those of the last pixel. */
+static void make_older_snapshot(struct input *snapshot)
+{
+    const size_t places = 789;
+    uint8_t *number = snapshot->bytes + PALETTE_SNAPSHOT_HEADER_BYTES;
+    snapshot->bytes[0] = PALETTE_CHIP_TLC34058;
+    snapshot->bytes[1] = (uint8_t)places;
+    snapshot->bytes[2] = (uint8_t)(places >> 8);
+    for (size_t i = 0; i < places; i++) {
+        *number++ = (uint8_t)i;
+        *number++ = (uint8_t)(i >> 8);
+    }
+    memset(number, 1, places);
+    snapshot->len = PALETTE_SNAPSHOT_BYTES(places);
+}
+
+/* The test register is 01h, red's high half, and each pixel shows overlay 0. The
+ * address write leaves position 0 and the palette read position 1, so no place is
+ * 0 at the end, and the end snapshot is the longest. */
+static const struct input test_log = {
+    {PALETTE_CHIP_TLC34058, 6, 0, 0, 0,
+     PALETTE_KIND_WRITE, PALETTE_KIND_READ, PALETTE_KIND_TICK, PALETTE_KIND_WRITE,
+     PALETTE_KIND_READ, PALETTE_KIND_READ,
+     0, 7, 0, 0, 0, 0, 0, 0,     /* address 07h */
+     2, 0, 0, 0, 0, 0, 0, 0,     /* black: 01h */
+     0, 0, 0, 0, 0, 0, 0, 1,     /* shown */
+     2, 0x0A, 0, 0, 0, 0, 0, 0,  /* green's low half */
+     2, 0, 0, 0, 0, 0, 0, 0,     /* 01h: 1Ah */
+     1, 0, 0, 0, 0, 0, 0, 0},    /* a palette read, 01h */
+    PALETTE_LOG_BYTES(6)};
+
+/* The number of runs that were not judged, or reads not answered, as they should
+ * be. */
+static unsigned run_test_log(bool behind)
+{
+    /* A byte too small, and what a program compiled with an older header lends. */
+    static const size_t too_small[] = {2378, 2370};
+    static struct input snapshot;
+    const size_t answers_len = 6 * PALETTE_ANSWER_BYTES;
+    const uint8_t *answers = place(ANSWERS, answers_len, behind);
+    const uint8_t *end = place(END, 2379, behind);
+    unsigned wrong = 0;
+    make_older_snapshot(&snapshot);
+    for (size_t i = 0; i < sizeof too_small / sizeof too_small[0]; i++)
+        wrong += run(&snapshot, snapshot.len, &test_log, test_log.len, answers_len, too_small[i],
+                     behind) != PALETTE_REFUSED_END_BUFFER;
+    wrong += run(&snapshot, snapshot.len, &test_log, test_log.len, answers_len, 2379, behind) !=
+             PALETTE_ACCEPTED;
+    wrong += answers[1 * PALETTE_ANSWER_BYTES + 1] != 0x01;
+    wrong += answers[4 * PALETTE_ANSWER_BYTES + 1] != 0x1A;
+    /* All 792 places; the last values are the last pixel's. */
+    wrong += end[1] + 256 * end[2] != 792;
+    for (size_t i = 2376; i < 2379; i++)
+        wrong += end[i] != 1;
+    return wrong;
+}
+
 int main(int argc, char **argv)
 {
     static struct input snapshot, log;
@@ -210,7 +269,8 @@ int main(int argc, char **argv)
     rooms[END] = make_room(PALETTE_END_BYTES);
     unsigned wrong = run_all(&snapshot, &log, true) + run_all(&snapshot, &log, false) +
                      currents_of_all(&snapshot, true) + currents_of_all(&snapshot, false) +
-                     plan_all(&snapshot, true) + plan_all(&snapshot, false);
+                     plan_all(&snapshot, true) + plan_all(&snapshot, false) +
+                     run_test_log(true) + run_test_log(false);
     printf("%u calls judged wrongly\n", wrong);
     return wrong == 0 ? 0 : 1;
 }

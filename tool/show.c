@@ -91,9 +91,10 @@ const struct subcommand show_subcommand = {
     .name = "show",
     .synopsis = "[--ppm FILE] SNAPSHOT",
     .help = "Prints what a chip holds: address and position, held bytes, registers with their\n"
-            "bits in words, and the colours that aren't black, in the chip's own codes. Of a\n"
-            "TMS34070: load position, held values, the colour before, and the registers that\n"
-            "aren't 0, with EXT and REP.\n"
+            "bits in words, of a TLC34058 the last pixel, which its test register reads, and\n"
+            "the colours that aren't black, in the chip's own codes. Of a TMS34070: load\n"
+            "position, held values, the colour before, and the registers that aren't 0, with\n"
+            "EXT and REP.\n"
             "\n"
             "  --ppm FILE   write a swatch of all colours, 16 to a row\n",
     .takes = {[OPTION_PPM] = true},

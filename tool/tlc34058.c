@@ -17,6 +17,9 @@ enum {
     COMMAND,
     TEST,
     BLINK_COUNT,
+    LAST_RED,
+    LAST_GREEN,
+    LAST_BLUE,
     PLACES
 };
 _Static_assert(PLACES == PALETTE_TLC34058_PLACES, "every place has its name");
@@ -31,6 +34,9 @@ static const struct place rest[PLACES - ADDRESS] = {
     [COMMAND - ADDRESS] = {"command register (06h)", false},
     [TEST - ADDRESS] = {"test register (07h)", false},
     [BLINK_COUNT - ADDRESS] = {"blink count", true},
+    [LAST_RED - ADDRESS] = {"last pixel, red", false},
+    [LAST_GREEN - ADDRESS] = {"last pixel, green", false},
+    [LAST_BLUE - ADDRESS] = {"last pixel, blue", false},
 };
 
 static const struct painted painted[] = {
@@ -45,12 +51,15 @@ static const struct field tick[] = {
     {NULL, 0}, {NULL, 1}, {NULL, 2}, {NULL, 3}, {NULL, 4}, {"ol0", 5}, {"ol1", 6}, {"levels", 7},
 };
 
-/* Table 7: bits of the command register, and what each of their values says. */
-static const struct {
+/* Bits of a register, and what each of their values says. */
+struct bits {
     const char *name;
     unsigned lowest, values;
     const char *words[4];
-} command_bits[] = {
+};
+
+/* Table 7. */
+static const struct bits command_bits[] = {
     {"  CR7", 7, 2, {"4:1 multiplexing, pixels A to D", "5:1 multiplexing, pixels A to E"}},
     {"  CR6", 6, 2,
      {"overlay 0 where OL1 and OL0 are 0", "palette RAM where OL1 and OL0 are 0"}},
@@ -64,6 +73,16 @@ static const struct {
 };
 enum { COMMAND_BITS = sizeof command_bits / sizeof command_bits[0] };
 
+/* Table 8, by which TR3 is low for the MSBs; the text below it has them the other
+ * way round. */
+static const struct bits test_bits[] = {
+    {"  TR3", 3, 2, {"4 MSBs of the data input", "4 LSBs of the data input"}},
+    {"  TR2", 2, 2, {"blue DAC not selected", "blue DAC selected"}},
+    {"  TR1", 1, 2, {"green DAC not selected", "green DAC selected"}},
+    {"  TR0", 0, 2, {"red DAC not selected", "red DAC selected"}},
+};
+enum { TEST_BITS = sizeof test_bits / sizeof test_bits[0] };
+
 static void name_entry(size_t entry, char *name)
 {
     if (entry < PALETTE)
@@ -72,16 +91,16 @@ static void name_entry(size_t entry, char *name)
         snprintf(name, NAME_ROOM, "overlay %zu", entry - PALETTE);
 }
 
-static void print_command(uint8_t command)
+static void print_bits(const struct bits *bits, size_t count, uint8_t byte)
 {
-    for (size_t i = 0; i < COMMAND_BITS; i++) {
-        unsigned value = (unsigned)command >> command_bits[i].lowest & (command_bits[i].values - 1);
-        print_name(command_bits[i].name);
-        if (command_bits[i].values == 4)
+    for (size_t i = 0; i < count; i++) {
+        unsigned value = (unsigned)byte >> bits[i].lowest & (bits[i].values - 1);
+        print_name(bits[i].name);
+        if (bits[i].values == 4)
             print(" %u%u", value >> 1, value & 1);
         else
             print(" %u", value);
-        print(": %s\n", command_bits[i].words[value]);
+        print(": %s\n", bits[i].words[value]);
     }
 }
 
@@ -100,9 +119,13 @@ static void print_rest(const struct chip *chip, const uint8_t *places)
     print_mask(chip, places, READ_MASK, "planes enabled:");
     print_mask(chip, places, BLINK_MASK, "planes blinking:");
     print_place(chip, places, COMMAND, NULL);
-    print_command(places[COMMAND]);
+    print_bits(command_bits, COMMAND_BITS, places[COMMAND]);
     print_place(chip, places, TEST, NULL);
+    print_bits(test_bits, TEST_BITS, places[TEST]);
     print_place(chip, places, BLINK_COUNT, NULL);
+    print_name("last pixel (DAC inputs)");
+    print_colour(chip, places + LAST_RED);
+    print("\n");
 }
 
 const struct chip tlc34058 = {

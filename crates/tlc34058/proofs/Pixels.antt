@@ -8,7 +8,6 @@ use native.Mathlib.Nat.{add-zero, div-div-eq-div-mul, pow-suc, div-one}
 use native.Mathlib.Omega.{arith}
 use lib.ListN.{length, getD, set, take, length-set}
 use lib.Seq.{take-suc-set, take-all}
-use Rattle.laws.proofs.Tests.{cond-all}
 use Rattle.event.specs.Answer.{bytesOf}
 use Rattle.event.specs.Event.{bit}
 use Rattle.tlc34058.specs.State.{Registers, Codes, black, Port, Display, State}
@@ -68,9 +67,6 @@ first-three [] a b c h = absurd (omega arith)
 first-three (x ∷ []) a b c h = absurd (omega arith)
 first-three (x ∷ y ∷ []) a b c h = absurd (omega arith)
 first-three (x ∷ y ∷ z ∷ l) a b c h = refl
-
-pub few-pixels : (command : ℕ) → pixelCount command ≤ 5
-few-pixels command = cond-all (λ n. n ≤ 5) (bit 7 command) 5 4 (omega arith) (omega arith)
 
 -- component k of pixel i
 abbrev pixelCodes : (ℕ → ℕ → ℕ) → ℕ → Codes

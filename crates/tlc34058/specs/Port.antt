@@ -56,16 +56,16 @@ request p e =
 unfoldable pub register : Registers → ℕ → ℕ
 register r a = cond (eqb a 4) (r .readMask) (cond (eqb a 5) (r .blinkMask) (cond (eqb a 6) (r .command) (r .test)))
 
+-- what a read of that register gives: the byte that it holds, but of the test register, 07h, what the last pixel's codes make of it
+abbrev pub readRegister : Registers → Codes → ℕ → ℕ
+readRegister r last a = cond (eqb a 7) (testRead (r .test) last) (register r a)
+
 unfoldable pub withRegister : Registers → ℕ → ℕ → Registers
 withRegister r a b =
     cond (eqb a 4) (record { readMask = b; blinkMask = r .blinkMask; command = r .command; test = r .test })
     (cond (eqb a 5) (record { readMask = r .readMask; blinkMask = b; command = r .command; test = r .test })
     (cond (eqb a 6) (record { readMask = r .readMask; blinkMask = r .blinkMask; command = b; test = r .test })
     (record { readMask = r .readMask; blinkMask = r .blinkMask; command = r .command; test = b })))
-
--- what a read of it gives: that byte, but of the test register, 07h, by what the last pixel shown was
-abbrev pub readRegister : Registers → Codes → ℕ → ℕ
-readRegister r last a = cond (eqb a 7) (testRead (r .test) last) (register r a)
 
 -- what an access leaves
 abbrev pub next : Port → Access → Port

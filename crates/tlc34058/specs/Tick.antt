@@ -67,6 +67,8 @@ tick p d o =
     (showed (pixelCount (p .registers .command)) (getD o 7 0)
     (codesUpTo (codeAt (p .colours) (p .registers) (blinkOn (p .registers .command) (d .blink)) (shownPixels (p .registers .command) (getD o 7 0)) o) 5))
 
+-- ---- what display events leave
+
 -- red, green and blue of an entry
 abbrev pub codesAt : List ℕ → ℕ → Codes
 codesAt colours entry = record { red = getD colours (3 * entry) 0; green = getD colours (3 * entry + 1) 0; blue = getD colours (3 * entry + 2) 0 }
@@ -86,11 +88,13 @@ ticked p d o = cond (undefinedBits o) d (record { blink = d .blink; last = lastS
 abbrev pub later : Display → Display
 later d = record { blink = (d .blink + 1) % 128; last = d .last }
 
+-- ticks and vertical periods move the display
 abbrev pub displayAfter : Port → Display → Raw → Display
 displayAfter p d e =
     cond (eqb (e .kind) kinds.tick) (ticked p d (e .operand))
     (cond (eqb (e .kind) kinds.vertical) (later d)
     d)
 
+-- a tick is answered
 abbrev pub show : Port → Display → Raw → Answer
 show p d e = cond (eqb (e .kind) kinds.tick) (tick p d (e .operand)) done

@@ -19,14 +19,13 @@ fn half(test: u8, code: u8) -> u8
 fn dac_input(test: u8, last: Codes) -> u8
     ensures { λ r. ⌜ (r ≡ dacInput test (codesOf last)) × (r ≤ 15) ⌝ }
 {
-    let selected = test % 8;
-    if selected == 1 {
+    if test % 8 == 1 {
         return half(test, last.red);
     }
-    if selected == 2 {
+    if test % 8 == 2 {
         return half(test, last.green);
     }
-    if selected == 4 {
+    if test % 8 == 4 {
         return half(test, last.blue);
     }
     0

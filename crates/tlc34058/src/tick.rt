@@ -232,7 +232,7 @@ fn undefined_bits(operand: [u8; 8]) -> bool
 }
 
 fn pixel_count(command: u8) -> u8
-    ensures { λ r. ⌜ r ≡ pixelCount command ⌝ }
+    ensures { λ r. ⌜ (r ≡ pixelCount command) × (r ≤ 5) ⌝ }
 {
     if command / 128 % 2 == 1 {
         return 5;

@@ -1,6 +1,6 @@
 -- `put_tick` meets its contract.
 use Rattle.event.proofs.Laws.{refused-bytes}
-use Rattle.tlc34058.proofs.Pixels.{few-pixels, shown-tick}
+use Rattle.tlc34058.proofs.Pixels.{shown-tick}
 use Rattle.tlc34058.specs.Struct.{joined}
 use Rattle.tlc34058.specs.Tick.{tick, ticked}
 use denote.Ref.{now}
@@ -62,12 +62,11 @@ wide-requires c κs = search needs
 
 last-codes-requires : tie.Need-last-codes-requires
 last-codes-requires c κs =
-    let args = c .before .before .before .before .before .before .before .before .before .before .before .before .before .args in
     let pre = c .before .before .before .before .before .before .before .before .before .before .before .before .before .pre in
     let pixel-count = c .before .before .before .before .before .before .before .before .pixel-count in
     let part2 = c .before .before .before .part2 in
     let wide = c .wide in
-    (part2 .given ∙ simp length-set (pre .0), omega (arith, few-pixels (args .c .command), pixel-count .ensures, wide .ensures .0))
+    (part2 .given ∙ simp length-set (pre .0), omega (arith, pixel-count .ensures .1, wide .ensures .0))
 
 with-last-requires : tie.Need-with-last-requires
 with-last-requires c κs = search needs
@@ -90,7 +89,7 @@ returns-2 c =
     let s = joined (now (args .colours)) (args .c) in
     let pre = c .before .before .before .before .before .before .before .before .before .before .before .before .before .before .before .pre in
     let long : 3 ≤ length (now (args .part)) = omega (arith, pre .0) in
-    shown-tick (s .port) (s .display) (args .t4) (now (args .part)) _ _ _ _ (sym (undefined-bits .ensures) ∙ if1 .left) long (pixel-count .ensures) (blink-on .ensures) (shown-pixels .ensures) (put-pixels .ensures)
+    shown-tick (s .port) (s .display) (args .t4) (now (args .part)) _ _ _ _ (sym (undefined-bits .ensures) ∙ if1 .left) long (pixel-count .ensures .0) (blink-on .ensures) (shown-pixels .ensures) (put-pixels .ensures)
     _ _ _ (wide .ensures .0) (last-codes .ensures) (with-last .ensures (now (args .colours)))
 
 pub put-tick-spec : {M : Type 1} → statement M

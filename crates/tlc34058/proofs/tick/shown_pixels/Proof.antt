@@ -15,7 +15,7 @@ wide-requires c κs = search needs
 returns : tie.Need-returns
 returns c =
     let if1 = c .before .before .if1 in
-    c .wide .ensures .0 ∙ c .before .pixel-count .ensures ∙ sym (simp (div-one, eq-eqb _ _ (if1 .taken)))
+    c .wide .ensures .0 ∙ c .before .pixel-count .ensures .0 ∙ sym (simp (div-one, eq-eqb _ _ (if1 .taken)))
 
 returns-2 : tie.Need-returns-2
 returns-2 c = simp (div-one, ne-eqb _ _ (c .if1 .left))

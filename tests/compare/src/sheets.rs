@@ -1,7 +1,8 @@
 //! The data sheets' tables, the TMS34070's paragraphs, document 01's marked lines
-//! and document 02's Note 5 as examples with the answers and end snapshots worked
-//! out by hand from the papers.
+//! and document 02's Notes 5 and 7 as examples with the answers and end snapshots
+//! worked out by hand from the papers.
 
+mod test_register;
 mod tms34070;
 
 use crate::case::Case;
@@ -22,7 +23,7 @@ pub struct Example {
     end: Places,
 }
 
-/// A table or a paragraph of a data sheet, 01's marked lines, or 02's Note 5.
+/// A table or a paragraph of a data sheet, 01's marked lines, or a note of 02.
 pub struct Sheet {
     pub name: &'static str,
     pub examples: fn() -> Vec<Example>,
@@ -60,6 +61,14 @@ pub const SHEETS: &[Sheet] = &[
     Sheet {
         name: "TLC34058 read mask and blink mask",
         examples: masks,
+    },
+    Sheet {
+        name: "TLC34058 table 8: test register",
+        examples: test_register::table_8,
+    },
+    Sheet {
+        name: "02's Note 7: the last pixel shown",
+        examples: test_register::last_pixel,
     },
     Sheet {
         name: "HD153129 table 2: register selection",
@@ -185,12 +194,20 @@ impl Example {
         self
     }
 
+    /// The end has these codes of chip 1's last pixel.
+    fn ends_after(self, codes: [u8; 3]) -> Example {
+        let [red, green, blue] = codes;
+        self.ends(&[(789, red), (790, green), (791, blue)])
+    }
+
     /// A chip 1 tick of one pixel A with its overlay bits, BLK high, four
-    /// pixels in all: pixel A's codes and those of pixels 00h.
+    /// pixels in all: pixel A's codes and those of pixels 00h, the last of which
+    /// stay.
     fn shows(self, pixel: u8, ol: [u8; 2], codes: [u8; 3], rest: [u8; 3]) -> Example {
         let [ol1, ol0] = ol;
         let answer = [&[0, 4, 1][..], &codes, &rest, &rest, &rest].concat();
         self.event(tick([pixel, 0, 0, 0, 0, ol0, ol1, 1]), &answer)
+            .ends_after(rest)
     }
 }
 
@@ -309,7 +326,8 @@ fn tables_1_and_2() -> Vec<Example> {
     rows
 }
 
-/// Read, modify, write at each register, the position being anything.
+/// Read, modify, write at each register, the position being anything. Of the test
+/// register four bits are read, and neither byte selects one colour alone.
 fn table_3() -> Vec<Example> {
     let mut rows = Vec::new();
     for address in 4..=7u8 {
@@ -323,7 +341,7 @@ fn table_3() -> Vec<Example> {
                     6 => row.paints(2, byte, 262),
                     _ => row.writes(2, &[byte]),
                 };
-                row = row.reads(2, &[byte]);
+                row = row.reads(2, &[if address == 7 { byte & 0x0F } else { byte }]);
             }
             rows.push(row.ends(&[(place, 0xAF)]));
         }
@@ -348,7 +366,8 @@ fn table_4() -> Vec<Example> {
             _ => row.event(read(3), &[2]),
         };
         rows.push(match address {
-            4..=7 => row.reads(2, &[0xF0 + address]),
+            4..=6 => row.reads(2, &[0xF0 + address]),
+            7 => row.reads(2, &[0x07]),
             _ => row.event(read(2), &[2]),
         });
     }
@@ -412,11 +431,11 @@ fn table_6() -> Vec<Example> {
     [(0, false), (1, true), (2, false), (3, true)]
         .into_iter()
         .map(|(levels, data)| {
-            let mut answer = vec![0, 5, levels];
-            if data {
-                answer.extend([ENTRY_01; 5].concat());
-            }
-            selection_chip("table 6", 0xC3, &[]).event(tick([1, 1, 1, 1, 1, 0, 0, levels]), &answer)
+            let codes = if data { ENTRY_01 } else { [0; 3] };
+            let answer = [&[0, 5, levels][..], &[codes; 5].concat()].concat();
+            selection_chip("table 6", 0xC3, &[])
+                .event(tick([1, 1, 1, 1, 1, 0, 0, levels]), &answer)
+                .ends_after(codes)
         })
         .collect()
 }
@@ -434,8 +453,12 @@ fn multiplexing() -> Vec<Example> {
     let four = [ENTRY_00, overlay(1), overlay(2), overlay(3)].concat();
     let five = [&four[..], &overlay(3)].concat();
     vec![
-        selection_chip("CR7 0", 0x43, &[]).event(tick(operand), &[&[0, 4, 1][..], &four].concat()),
-        selection_chip("CR7 1", 0xC3, &[]).event(tick(operand), &[&[0, 5, 1][..], &five].concat()),
+        selection_chip("CR7 0", 0x43, &[])
+            .event(tick(operand), &[&[0, 4, 1][..], &four].concat())
+            .ends_after(overlay(3)),
+        selection_chip("CR7 1", 0xC3, &[])
+            .event(tick(operand), &[&[0, 5, 1][..], &five].concat())
+            .ends_after(overlay(3)),
     ]
 }
 

@@ -1,6 +1,7 @@
 //! The classes of runs. Each makes cases; a case decides nothing about what is
 //! right, the model does.
 
+pub mod test_register;
 mod tms34070;
 
 use crate::case::Case;
@@ -9,7 +10,7 @@ use crate::damage::{damage_length, damaged_log, damaged_snapshot};
 use crate::damage::{several_faults, two_indexed_faults, LOG_FAULTS, SNAPSHOT_FAULTS};
 use kit::{c, read, save, tick, vertical, write, Random, CHIPS};
 use kit::{counter_places, largest, log_bytes, nonzero, place_count, snapshot_bytes};
-use kit::{used_bytes, LOG_HEADER_BYTES, OLDER_MOST_EVENTS};
+use kit::{used_bytes, LOG_HEADER_BYTES, OLDER_END_BYTES, OLDER_MOST_EVENTS};
 use model::{kind, Event, ANSWER_BYTES, END_BUFFER_BYTES, MOST_EVENTS};
 
 pub const RANDOM: &[Class<Case>] = &[
@@ -18,6 +19,16 @@ pub const RANDOM: &[Class<Case>] = &[
     class("logs, chip 3", 700, |random| any_log(random, 3)),
     class("one event on any state", 3000, one_event),
     class("ticks through the blink cycle", 40, blink_cycle),
+    class(
+        "07h reads between ticks and painting",
+        200,
+        test_register::reads_between,
+    ),
+    class(
+        "snapshots with no last pixel",
+        100,
+        test_register::no_last_pixel,
+    ),
     class("chains of REP", 120, tms34070::chain_of_rep),
     class(
         "events between a register's two loads",
@@ -185,9 +196,9 @@ fn buffers(random: &mut Random) -> Case {
         END_BUFFER_BYTES + 40,
     ]);
     if random.one_in(8) {
-        // The last is the smallest chip's longest snapshot.
+        // The smallest chip's longest snapshot, and what older programs lend.
         let fewest = CHIPS.into_iter().map(place_count).min().unwrap_or(0);
-        case.end_len = random.pick(&[0, 3, 3 + 3 * fewest]);
+        case.end_len = random.pick(&[0, 3, 3 + 3 * fewest, OLDER_END_BYTES]);
     }
     if random.one_in(8) {
         case.answers_len = 0;
@@ -244,6 +255,10 @@ pub const SWEEPS: &[Sweep<Case>] = &[
         cases: pins_and_faults,
     },
     Sweep {
+        name: "every test byte with every code, after each sort of tick",
+        cases: test_register::every_test_byte,
+    },
+    Sweep {
         name: "every pair of registers, shown and loaded",
         cases: tms34070::every_pair_of_registers,
     },
@@ -262,6 +277,10 @@ pub const SWEEPS: &[Sweep<Case>] = &[
     Sweep {
         name: "logs at the limit and one more",
         cases: limits,
+    },
+    Sweep {
+        name: "end buffers about the older size and the least",
+        cases: test_register::end_buffers,
     },
     Sweep {
         name: "every bit of the count",
@@ -533,9 +552,10 @@ mod tests {
     //! What the sweeps come to, by the model alone: they need no library.
 
     use super::{all_counters, every_count, every_kind_and_byte, every_place_count};
-    use super::{every_selector, lively};
+    use super::{every_selector, lively, places_alone};
+    use crate::case::Case;
     use crate::compared::Compared;
-    use kit::{place_values, Random, ANSWER_BYTES};
+    use kit::{log_bytes, place_values, save, Random, ANSWER_BYTES};
     use std::collections::BTreeSet;
 
     #[test]
@@ -572,5 +592,30 @@ mod tests {
         assert!(refusals.eq([0, 22, 24, 0, 22, 24, 0, 22, 24]));
         let lengths = cases[6..].iter().map(|case| case.snapshot.len());
         assert!(lengths.eq([3 + 3 * 86, 3 + 3 * 87, 3 + 3 * 86]));
+        let lengths = cases[..3].iter().map(|case| case.snapshot.len());
+        assert!(lengths.eq([2379, 2382, 2379]));
+    }
+
+    /// Chip 1's places behind the blink count: up to 255, and 792 is 24.
+    #[test]
+    fn the_last_pixels_places_are_each_tried_alone() {
+        let log = log_bytes(1, &[save()]);
+        let random = &mut Random::seeded(1);
+        let mut refusals = Vec::new();
+        for snapshot in places_alone() {
+            let places = place_values(&snapshot);
+            if snapshot[0] == 1 && places[0].0 >= 789 {
+                let case = Case::exact(snapshot, log.clone(), random);
+                refusals.push((places[0], case.run_model().result >> 16));
+            }
+        }
+        let mut expected = Vec::new();
+        for place in 789..=791 {
+            expected.extend([((place, 0), 25), ((place, 1), 0)]);
+            expected.extend([((place, 255), 0); 3]);
+        }
+        let outside = [0, 1, 255, 255, 255].map(|value| ((792, value), 24));
+        expected.extend(outside);
+        assert_eq!(refusals, expected);
     }
 }

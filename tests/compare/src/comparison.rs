@@ -10,7 +10,7 @@ use crate::library::{lacks, Call};
 use crate::replay::{self, Input, INPUTS};
 use crate::report::{Failure, Report, Subject};
 use crate::sheets::{Sheet, SHEETS};
-use crate::shuffle::{Shuffle, SHUFFLES};
+use crate::shuffle::{self, Shuffle, SHUFFLES};
 use crate::{case, classes, currents, plan};
 use kit::{hexadecimal, Random};
 use std::path::{Path, PathBuf};
@@ -19,12 +19,6 @@ use std::path::{Path, PathBuf};
 const TRIES_FOR_ONE: usize = 4_000;
 /// The same where each try runs a program.
 pub const RUNS_FOR_ONE: usize = 300;
-
-/// A pair whose ticks differ, so the painting condition is seen to matter.
-const CONDITION_MATTERS: &str = "demand 3: painting not kept, a tick differs";
-const CONDITION_HELD: &str = "demand 3: painting kept, ticks compared";
-/// The same of pairs whose ends differ, of a chip whose ticks move places.
-const ENDS_DIFFER: &str = "demand 3: painting not kept, the end snapshots differ";
 
 /// The proved programs that are compared beside the library.
 #[derive(Default)]
@@ -202,16 +196,10 @@ impl Comparison {
             }
             let pair = (shuffle.make)(&mut random);
             match pair.check() {
-                Ok(held) => {
+                Ok(shown) => {
                     self.report.checked(shuffle.name);
-                    if held.painting_kept {
-                        self.report.checked(CONDITION_HELD);
-                    }
-                    if held.ticks_differ {
-                        self.report.checked(CONDITION_MATTERS);
-                    }
-                    if held.ends_differ {
-                        self.report.checked(ENDS_DIFFER);
+                    for shown in shown {
+                        self.report.checked(shown);
                     }
                 }
                 Err(_) => {
@@ -368,9 +356,9 @@ impl Comparison {
         for shuffle in SHUFFLES {
             self.shuffles(shuffle, round);
         }
-        self.begins(CONDITION_HELD, &[Call::Run]);
-        self.begins(CONDITION_MATTERS, &[Call::Run]);
-        self.begins(ENDS_DIFFER, &[Call::Run]);
+        for shown in shuffle::SHOWN {
+            self.begins(shown, &[Call::Run]);
+        }
         for class in calls::RANDOM {
             self.call_class(programs, class, round);
         }

@@ -206,6 +206,37 @@ fn selections() -> Vec<Event> {
     events
 }
 
+/// Chip 1's test register: every selection, read after ticks of four and of five
+/// pixels that differ, after a blanked and after a refused one, and behind a save.
+fn halves_of_codes() -> Vec<Event> {
+    let mut events = vec![write(0, 1)];
+    // Entries 1 to 5: every half of every code is another than its neighbour's.
+    events.extend((0..15u8).map(|n| write(1, 0x1F + 0x0E * n)));
+    events.extend([write(0, 4), write(2, 0xFF)]);
+    let shown = tick([1, 2, 3, 4, 5, 0, 0, 1]);
+    let blanked = tick([1, 2, 3, 4, 5, 0, 0, 2]);
+    let refused = [
+        tick([1, 1, 1, 1, 1, 32, 0, 1]),
+        tick([1, 1, 1, 1, 1, 0, 0, 4]),
+    ];
+    for command in [0x40, 0xC0] {
+        for ticks in [
+            vec![shown],
+            vec![shown, blanked],
+            vec![shown, refused[0], refused[1]],
+            vec![shown, save()],
+        ] {
+            events.extend([write(0, 6), write(2, command)]);
+            events.extend(ticks);
+            events.push(write(0, 7));
+            for selection in 0..16 {
+                events.extend([write(2, 0x50 + selection), read(2)]);
+            }
+        }
+    }
+    events
+}
+
 /// What can stand inside an entry's accesses, and the sample's name.
 fn inside_entries(chip: u8) -> (&'static str, Vec<Event>) {
     match chip {
@@ -218,8 +249,8 @@ fn inside_entries(chip: u8) -> (&'static str, Vec<Event>) {
 /// Logs for a run without proof, which an interpreter plays too: for each chip
 /// an accepted log and one of no events, whose end snapshot is the fresh
 /// chip's, one event of each kind with no operand byte 0, then logs with each
-/// refusal; of chip 1 its selection, the header of a log at the limit and past
-/// it, and the longest log with a byte more.
+/// refusal; of chip 1 its selection, its test register, the header of a log at the
+/// limit and past it, and the longest log with a byte more.
 pub fn samples(random: &mut Random) -> Vec<(String, Vec<u8>)> {
     let mut samples = Vec::new();
     for chip in CHIPS {
@@ -241,6 +272,8 @@ pub fn samples(random: &mut Random) -> Vec<(String, Vec<u8>)> {
         }
     }
     samples.push(("selections-chip-1".into(), log_bytes(1, &selections())));
+    let halves = log_bytes(1, &halves_of_codes());
+    samples.push(("halves-of-codes-chip-1".into(), halves));
     for count in [MOST_EVENTS, MOST_EVENTS + 1] {
         let header = [&[1][..], &(count as u32).to_le_bytes()].concat();
         samples.push((format!("header-of-{count}-events"), header));

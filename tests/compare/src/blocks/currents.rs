@@ -81,7 +81,7 @@ mod tests {
         operand  00*7 03\n\
         out      00 04 03 00*15\n         01-1E\n\
         end      01 0100\n         0C03  05\n\
-        buffers  60 2370\n\
+        buffers  60 2379\n\
         ```\n";
 
     const REFUSED: &str = "```currents\nsnapshot 02 0000\noperand\nrefused 40\n```\n";
@@ -111,13 +111,13 @@ mod tests {
             [&[0, 4, 3][..], &[0; 15], &currents].concat()
         );
         assert_eq!(block.buffers[1].written, snapshot);
-        assert_eq!(lens(&block), [60, 2370]);
+        assert_eq!(lens(&block), [60, 2379]);
         assert_eq!((block.returned(), block.refusals()), (6, vec![0, 0]));
     }
 
     #[test]
     fn the_buffers_have_sizes_of_their_own() {
-        let block = read(&BLOCK.replace("buffers  60 2370\n", ""));
+        let block = read(&BLOCK.replace("buffers  60 2379\n", ""));
         assert_eq!(block.ok().map(|block| lens(&block)), Some(vec![48, 4096]));
     }
 
@@ -154,17 +154,17 @@ mod tests {
             "refused 40",
             "have no out",
         ),
-        ("buffers  60 2370", "refused 40", "both"),
-        ("buffers  60 2370", "refused", "no refusal's number"),
-        ("buffers  60 2370", "buffers 60", "no two sizes"),
-        ("buffers  60 2370", "buffers 47 2370", "smaller"),
-        ("buffers  60 2370", "buffers 48 5", "smaller"),
+        ("buffers  60 2379", "refused 40", "both"),
+        ("buffers  60 2379", "refused", "no refusal's number"),
+        ("buffers  60 2379", "buffers 60", "no two sizes"),
+        ("buffers  60 2379", "buffers 47 2379", "smaller"),
+        ("buffers  60 2379", "buffers 48 5", "smaller"),
         (
-            "60 2370",
-            "60 2370\n         2370",
+            "60 2379",
+            "60 2379\n         2379",
             "line 9: it goes on with a word that has one line only",
         ),
-        ("2370\n```", "2370\n", "isn't closed"),
+        ("2379\n```", "2379\n", "isn't closed"),
     ];
 
     #[test]

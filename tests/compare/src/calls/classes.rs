@@ -7,10 +7,12 @@ use crate::calls::faults::{OF_THE_CHIP, OF_THE_FORM};
 use crate::calls::plans;
 use crate::calls::record::{Record, Whole, BUFFER_BYTES, CALLS};
 use crate::classes::scramble;
+use crate::classes::test_register::{places_at_07h, test_byte};
 use crate::currents::classes::codes_at_outputs;
 use crate::damage::{damaged_snapshot, snapshot_with_two_faults, SNAPSHOT_FAULTS};
+use kit::OLDER_END_BYTES;
+use kit::{c, read, save, snapshot_bytes, tick, write, Random, CHIPS, CURRENTS_CHIP};
 use kit::{counter_places, highest_kind, largest, nonzero, other_chips, p1, p2, place_count};
-use kit::{read, save, snapshot_bytes, write, Random, CHIPS, CURRENTS_CHIP};
 use model::{Event, Operand, Refusal, END_BUFFER_BYTES};
 
 /// A class of random records.
@@ -37,6 +39,7 @@ const fn class(
 pub const RANDOM: &[Class] = &[
     class("calls: events on any state", 200, any_event),
     class("calls: events that the chip refuses", 100, refused_event),
+    class("calls: test register and last pixel", 120, test_register),
     class("calls: odd kinds and unused bytes", 120, odd_form),
     class(
         "calls: events on values above their largest",
@@ -86,7 +89,7 @@ pub const RANDOM: &[Class] = &[
 ];
 
 /// Records for a run without proof, which an interpreter plays too: some of each
-/// class, three sweeps, a part of a fourth, and plans of one run. What is printed
+/// class, four sweeps, a part of a fifth, and plans of one run. What is printed
 /// must be what the model prints, so nothing may be free in them.
 pub fn samples(random: &mut Random) -> Vec<(String, Vec<Record>)> {
     const RECORDS: usize = 8;
@@ -104,6 +107,7 @@ pub fn samples(random: &mut Random) -> Vec<(String, Vec<Record>)> {
         ("every-operand-byte", every_operand_byte(random)),
         ("every-selector", every_selector(random)),
         ("every-load", every_load(random)),
+        ("every-selection", every_selection()),
         ("plans-of-one-run", plans::single_runs(random)),
     ] {
         let parts = records.chunks(AT_A_TIME).enumerate();
@@ -125,6 +129,36 @@ fn any_event(random: &mut Random, _: usize) -> Record {
 
 fn refused_event(random: &mut Random, number: usize) -> Record {
     event_record(planted(random, OF_THE_CHIP[number % OF_THE_CHIP.len()]))
+}
+
+/// At 07h a read, a write, a tick that is shown or blanked, or a refused one.
+fn test_register(random: &mut Random, number: usize) -> Record {
+    let mut state = Whole::fresh(1);
+    *state.part(1) = places_at_07h(random);
+    let event = match number % 6 {
+        0 => write(c::CONTROL, test_byte(random)),
+        1 => tick([0, 1, 2, 3, 4, 0, 0, 1]),
+        2 => random.tick(1),
+        3 => random.odd_tick(1),
+        _ => read(c::CONTROL),
+    };
+    Record::Event { state, event }
+}
+
+/// Every selection of the test register, read after a pixel with six halves of its
+/// own.
+fn every_selection() -> Vec<Record> {
+    let read_with = |byte: u8| {
+        let mut state = Whole::fresh(1);
+        let part = state.part(1);
+        part[p1::ADDRESS] = 7;
+        part[p1::TEST] = byte;
+        part[p1::LAST_RED..].copy_from_slice(&[0x12, 0x34, 0x56]);
+        let event = read(c::CONTROL);
+        Record::Event { state, event }
+    };
+    let selections = (0..16).flat_map(|low| [low, 0xF0 + low]);
+    selections.map(read_with).collect()
 }
 
 /// 14 with and without operand bytes, 15 with and without 1 to 5 behind it.
@@ -195,7 +229,7 @@ fn too_short(random: &mut Random, places: &[u8]) -> usize {
     let most = END_BUFFER_BYTES - 1;
     let own = 3 + 3 * nonzero(places).len();
     let any = random.below(END_BUFFER_BYTES);
-    random.pick(&[0, 1, most, most.min(own), any])
+    random.pick(&[0, 1, most, most.min(own), OLDER_END_BYTES, any])
 }
 
 fn any_save(random: &mut Random, _: usize) -> Record {
@@ -340,6 +374,10 @@ pub const SWEEPS: &[Sweep] = &[
     Sweep {
         name: "calls: loads at every position",
         batches: |random| vec![Batch::whole(every_load(random))],
+    },
+    Sweep {
+        name: "calls: every selection of the test register",
+        batches: |_| vec![Batch::whole(every_selection())],
     },
     Sweep {
         name: "calls: currents, every code at every output",
@@ -505,11 +543,12 @@ fn every_load(random: &mut Random) -> Vec<Record> {
     records
 }
 
-/// Rooms round the least that is accepted, round each chip's own longest
-/// snapshot, and at the ends.
+/// Rooms round the least that is accepted, round what older programs lend, round
+/// each chip's own longest snapshot, and at the ends.
 fn every_room(random: &mut Random) -> Vec<Record> {
     let mut rooms = vec![0, 1, 2, 3, BUFFER_BYTES - 1, BUFFER_BYTES];
     rooms.extend(END_BUFFER_BYTES - 3..=END_BUFFER_BYTES + 3);
+    rooms.extend(OLDER_END_BYTES - 1..=OLDER_END_BYTES + 1);
     for chip in CHIPS {
         let longest = 3 + 3 * place_count(chip);
         rooms.extend(longest - 1..=longest + 1);
@@ -564,7 +603,7 @@ fn in_pieces(random: &mut Random) -> Vec<Batch> {
 mod tests {
     //! What the classes come to, by the model alone: they need no program.
 
-    use super::{every_code_shown, plans, samples, RANDOM, SWEEPS};
+    use super::{every_code_shown, every_selection, plans, samples, RANDOM, SWEEPS};
     use crate::calls::record::Record;
     use crate::calls::tables::TABLES;
     use crate::report::Shown;
@@ -611,6 +650,24 @@ mod tests {
         let settled = (0..5).map(|number| plans::any(random, number).is_settled());
         let settled: Vec<bool> = settled.collect();
         assert_eq!(settled, [true, true, false, false, false]);
+    }
+
+    /// Of 12h 34h 56h: each half beside its selection, and none beside others.
+    #[test]
+    fn the_sample_of_selections_has_each_half() {
+        let printed = every_selection()
+            .iter()
+            .map(Record::printed)
+            .collect::<Vec<_>>();
+        let byte = |line: &String| u8::from_str_radix(&line[2..4], 16).expect("a byte");
+        let low_bytes: Vec<u8> = printed.iter().step_by(2).map(byte).collect();
+        let expected = [
+            0x00, 0x11, 0x32, 0x03, 0x54, 0x05, 0x06, 0x07, 0x08, 0x29, 0x4A, 0x0B, 0x6C, 0x0D,
+            0x0E, 0x0F,
+        ];
+        assert_eq!(low_bytes, expected);
+        let high_bytes: Vec<u8> = printed.iter().skip(1).step_by(2).map(byte).collect();
+        assert_eq!(high_bytes, expected);
     }
 
     #[test]

@@ -1,6 +1,7 @@
 //! The classes of the currents. Each makes cases; a case decides nothing about
 //! what is right, the model does.
 
+use crate::classes::test_register::places_at_07h;
 use crate::classes::{lively, places_alone, scramble};
 use crate::compared::{class, Class, Sweep};
 use crate::currents::case::Case;
@@ -8,12 +9,17 @@ use crate::currents::faults::{accepted, planted, BEHIND_THE_SNAPSHOT};
 use crate::damage::{damaged_snapshot, snapshot_with_two_faults, SNAPSHOT_FAULTS};
 use crate::damage::{one_and_two, some_faults};
 use kit::{nonzero, p1, place_count, snapshot_bytes, Random, ANSWER_BYTES, CHIPS};
-use kit::{CURRENTS_BYTES, CURRENTS_CHIP, END_BYTES, OPERAND_BYTES};
+use kit::{CURRENTS_BYTES, CURRENTS_CHIP, END_BYTES, OLDER_END_BYTES, OPERAND_BYTES};
 use model::{Operand, Refusal};
 
 pub const RANDOM: &[Class<Case>] = &[
     class("currents: ticks on any state", 200, accepted),
     class("currents: masks, overlays and blinking", 200, shown),
+    class(
+        "currents: the last pixel of the next state",
+        100,
+        last_pixel,
+    ),
     class("currents: ticks that the chip refuses", 40, |random| {
         planted(random, &[Refusal::UndefinedBits])
     }),
@@ -54,6 +60,17 @@ fn shown(random: &mut Random) -> Case {
     let mut case = with_snapshot(random, snapshot);
     case.operand[..5].copy_from_slice(&random.bytes(5));
     case
+}
+
+/// Ticks of every sort after a pixel whose codes aren't 0.
+fn last_pixel(random: &mut Random) -> Case {
+    let places = places_at_07h(random);
+    let tick = match random.below(4) {
+        0 => random.odd_tick(CURRENTS_CHIP),
+        _ => random.tick(CURRENTS_CHIP),
+    };
+    let snapshot = snapshot_bytes(CURRENTS_CHIP, &nonzero(&places));
+    Case::exact(snapshot, &tick.operand, random)
 }
 
 fn several_faults(random: &mut Random) -> Case {
@@ -183,9 +200,10 @@ fn every_length(random: &mut Random) -> Vec<Case> {
         CURRENTS_BYTES + 1,
         90,
     ];
-    const END: [usize; 6] = [
+    const END: [usize; 7] = [
         0,
         3,
+        OLDER_END_BYTES,
         END_BYTES - 1,
         END_BYTES,
         END_BYTES + 1,
@@ -254,11 +272,11 @@ fn each_refusal(random: &mut Random) -> Vec<Case> {
 mod tests {
     //! What the sweeps come to, by the model alone: they need no library.
 
-    use super::{codes_at_outputs, each_refusal};
+    use super::{codes_at_outputs, each_refusal, last_pixel};
     use crate::compared::Compared;
     use crate::report::{Shown, CURRENTS};
-    use kit::{Random, ANSWER_BYTES, CURRENTS_CHIP};
-    use model::{tick_currents, State};
+    use kit::{p1, Random, ANSWER_BYTES, CURRENTS_CHIP};
+    use model::{restore, tick_currents, State};
     use std::collections::BTreeSet;
 
     #[test]
@@ -280,6 +298,31 @@ mod tests {
             let these = seen.iter().filter(|&&(c, l, ..)| (c, l) == (count, levels));
             assert_eq!(these.count(), codes * 3 * usize::from(count));
         }
+    }
+
+    /// The next state has black, the codes before and others, with four and five
+    /// pixels.
+    #[test]
+    fn the_last_pixel_is_shown_blanked_and_kept() {
+        let random = &mut Random::seeded(1);
+        let mut counts = [0; 4];
+        for _ in 0..200 {
+            let case = last_pixel(random);
+            let state = restore(&case.snapshot).state;
+            let operand = case.operand.try_into().expect("an operand");
+            let (answer, next, _) = tick_currents(&state, &operand);
+            let codes = |state: &State| state.places()[p1::LAST_RED..].to_vec();
+            let sort = match (answer[0], codes(&next)) {
+                (4, after) => {
+                    assert_eq!(after, codes(&state));
+                    0
+                }
+                (_, after) if after == [0; 3] => 1,
+                _ => usize::from(answer[1]) - 2,
+            };
+            counts[sort] += 1;
+        }
+        assert!(counts.iter().all(|&count| count > 25), "{counts:?}");
     }
 
     #[test]

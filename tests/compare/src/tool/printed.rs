@@ -160,13 +160,20 @@ fn entry_name(chip: u8, entry: usize) -> String {
     }
 }
 
-/// The words of the lines of `show` that have a colour: chip 3's colour before,
-/// and the entries that aren't all 0.
+/// The words of the lines of `show` that have a colour: chip 1's last pixel, chip
+/// 3's colour before, and the entries that aren't all 0.
 pub fn of_colours(chip: u8, places: &[u8]) -> Vec<Line> {
     let mut lines = Vec::new();
-    if chip == 3 {
-        let before = colour(&places[p3::COLOUR_BEFORE..]);
-        lines.push(Line::Whole(format!("colour before {before}")));
+    match chip {
+        1 => {
+            let last = colour(&places[p1::LAST_RED..]);
+            lines.push(Line::Whole(format!("last pixel (DAC inputs) {last}")));
+        }
+        3 => {
+            let before = colour(&places[p3::COLOUR_BEFORE..]);
+            lines.push(Line::Whole(format!("colour before {before}")));
+        }
+        _ => {}
     }
     let entries = places[..table_places(chip)].chunks(entry_places(chip));
     for (entry, values) in entries.enumerate() {

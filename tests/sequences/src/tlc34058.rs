@@ -1,4 +1,4 @@
-//! Sequences after the TLC34058's Tables 1 to 7. Each ends with reads or ticks
+//! Sequences after the TLC34058's Tables 1 to 8. Each ends with reads or ticks
 //! that show what came of it.
 
 use crate::sequence::Sequence;
@@ -49,6 +49,36 @@ const RATES: &[Step] = &[
     BLINK_TICK,
     Write(c::CONTROL, &[0x70]),
     BLINK_TICK,
+];
+
+/// Entries 01h and 02h with halves that are all different, all read mask bits; the
+/// address is left at the command register.
+const DAC_INPUTS: &[Step] = &[
+    Write(c::ADDRESS, &[0x01]),
+    Write(c::PALETTE, &[0x9D, 0xAB, 0x48, 0xC7, 0x5E, 0x32]),
+    Write(c::ADDRESS, &[0x04]),
+    Write(c::CONTROL, &[0xFF]),
+    Write(c::ADDRESS, &[0x06]),
+];
+
+/// Pixel D is 02h, pixel E 01h.
+const INPUT_TICK: Step = Tick([0x01, 0x01, 0x01, 0x02, 0x01, 0, 0, 1]);
+
+/// Table 8's rows: blue, green and red, the MSBs first.
+const ROWS: &[Step] = &[
+    Write(c::ADDRESS, &[0x07]),
+    Write(c::CONTROL, &[0b0100]),
+    Read(c::CONTROL, 1),
+    Write(c::CONTROL, &[0b0010]),
+    Read(c::CONTROL, 1),
+    Write(c::CONTROL, &[0b0001]),
+    Read(c::CONTROL, 1),
+    Write(c::CONTROL, &[0b1100]),
+    Read(c::CONTROL, 1),
+    Write(c::CONTROL, &[0b1010]),
+    Read(c::CONTROL, 1),
+    Write(c::CONTROL, &[0b1001]),
+    Read(c::CONTROL, 1),
 ];
 
 /// CR3 to CR0 in all sixteen ways at this count.
@@ -438,6 +468,102 @@ pub const SEQUENCES: &[Sequence] = &[
         name: "TLC34058 Table 7: CR3 to CR0 with blink on, then off",
         chip: 1,
         parts: &[COLOURS, ENABLES, &[Vertical(16)], ENABLES],
+    },
+    // ---- Table 8
+    Sequence {
+        name: "TLC34058 Table 8: each row after a tick of four pixels, and of five",
+        chip: 1,
+        parts: &[
+            DAC_INPUTS,
+            &[Write(c::CONTROL, &[0x40]), INPUT_TICK],
+            ROWS,
+            &[
+                Write(c::ADDRESS, &[0x06]),
+                Write(c::CONTROL, &[0xC0]),
+                Write(c::ADDRESS, &[0x07]),
+                Read(c::CONTROL, 1),
+                INPUT_TICK,
+            ],
+            ROWS,
+        ],
+    },
+    Sequence {
+        name: "TLC34058 Table 8: no row for no colour and for several; bits 4 to 7 written",
+        chip: 1,
+        parts: &[
+            DAC_INPUTS,
+            &[
+                Write(c::CONTROL, &[0x40]),
+                INPUT_TICK,
+                Write(c::ADDRESS, &[0x07]),
+                Read(c::CONTROL, 1),
+                Write(c::CONTROL, &[0x08]),
+                Read(c::CONTROL, 1),
+                Write(c::CONTROL, &[0x03]),
+                Read(c::CONTROL, 1),
+                Write(c::CONTROL, &[0x05]),
+                Read(c::CONTROL, 1),
+                Write(c::CONTROL, &[0x06]),
+                Read(c::CONTROL, 1),
+                Write(c::CONTROL, &[0x07]),
+                Read(c::CONTROL, 1),
+                Write(c::CONTROL, &[0x0B]),
+                Read(c::CONTROL, 1),
+                Write(c::CONTROL, &[0x0D]),
+                Read(c::CONTROL, 1),
+                Write(c::CONTROL, &[0x0E]),
+                Read(c::CONTROL, 1),
+                Write(c::CONTROL, &[0x0F]),
+                Read(c::CONTROL, 1),
+                Write(c::CONTROL, &[0xF0]),
+                Read(c::CONTROL, 1),
+                Write(c::CONTROL, &[0xF2]),
+                Read(c::CONTROL, 2),
+                Read(c::ADDRESS, 1),
+            ],
+        ],
+    },
+    Sequence {
+        name: "TLC34058 Table 8: black before a tick and after a blanked one",
+        chip: 1,
+        parts: &[
+            ROWS,
+            DAC_INPUTS,
+            &[
+                Write(c::CONTROL, &[0x40]),
+                INPUT_TICK,
+                Tick([0x01, 0x02, 0x01, 0x02, 0x01, 0, 0, 0]),
+            ],
+            ROWS,
+            &[
+                INPUT_TICK,
+                Tick([0x01, 0x02, 0x01, 0x02, 0x01, 0, 0, 2]),
+                Read(c::CONTROL, 1),
+            ],
+        ],
+    },
+    Sequence {
+        name: "TLC34058 Table 8: refused ticks and other events leave the inputs",
+        chip: 1,
+        parts: &[
+            DAC_INPUTS,
+            &[
+                Write(c::CONTROL, &[0x40]),
+                INPUT_TICK,
+                Tick([0x01, 0x01, 0x01, 0x01, 0x01, 0x20, 0, 1]),
+                Tick([0x01, 0x01, 0x01, 0x01, 0x01, 0, 0x20, 0]),
+                Tick([0x01, 0x01, 0x01, 0x01, 0x01, 0, 0, 4]),
+                Vertical(1),
+                Save,
+                Raw(kind::LOAD, [1, 2, 0, 0, 0, 0, 0, 0]),
+                Write(c::ADDRESS, &[0x02]),
+                Write(c::PALETTE, &[0x01, 0x02, 0x03]),
+                Write(c::ADDRESS, &[0x02]),
+                Read(c::PALETTE, 1),
+            ],
+            ROWS,
+            &[Save, Read(c::CONTROL, 1), INPUT_TICK, Read(c::CONTROL, 1)],
+        ],
     },
     // ---- the masks
     Sequence {

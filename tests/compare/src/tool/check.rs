@@ -5,9 +5,10 @@ use crate::program::WHOLE;
 use crate::tool::classes::{ASSEMBLED, LONG_LOG, LONG_SNAPSHOT, NOT_UNDERSTOOD};
 use crate::tool::classes::{CURRENTS_BLANKED, CURRENTS_FIVE, CURRENTS_FOUR};
 use crate::tool::classes::{LISTED_CHIPS, LISTED_EMPTY, LISTED_LOADS, LISTED_MOST};
-use crate::tool::classes::{LISTED_PIECES, LISTED_VERTICALS, SHOWN_CHIPS, SHOWN_DIFFERENT};
+use crate::tool::classes::{LISTED_PIECES, LISTED_VERTICALS};
 use crate::tool::classes::{PLAN_ACROSS, PLAN_ALL, PLAN_EMPTY, PLAN_RUNS};
 use crate::tool::classes::{RUN_BLANKED, RUN_CHIPS, RUN_PAINTED, RUN_PIXEL_BITS, RUN_TICK};
+use crate::tool::classes::{SHOWN_CHIPS, SHOWN_DIFFERENT, SHOWN_LAST_PIXEL};
 use crate::tool::input::{Input, Sort};
 use crate::tool::modelled::{self, refusal_of_log, refusal_of_snapshot, Outcome, Plan, Run};
 use crate::tool::{printed, Played, Tool};
@@ -279,6 +280,9 @@ pub fn shown_and_compared(tool: &Tool, input: &Input) -> Checked {
     };
     if compared(tool, [&path, &path], [first, first])? == Ok(0) {
         seen.parts.push(of_chip(&SHOWN_CHIPS, first[0]));
+        if printed::has_last_pixel(first[0], &model::restore(first).state.places()) {
+            seen.parts.push(SHOWN_LAST_PIXEL);
+        }
     }
     match compared(tool, [&path, &other], [first, second])? {
         Ok(0) => {}

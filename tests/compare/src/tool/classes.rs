@@ -68,6 +68,7 @@ pub const SHOWN_CHIPS: [&str; CHIPS.len()] = [
     "tool: show and diff: chip 3",
 ];
 pub const SHOWN_DIFFERENT: &str = "tool: show and diff: places that differ";
+pub const SHOWN_LAST_PIXEL: &str = "tool: show and diff: a last pixel that isn't black";
 pub const CURRENTS_FOUR: &str = "tool: currents: four pixels";
 pub const CURRENTS_FIVE: &str = "tool: currents: five pixels";
 pub const CURRENTS_BLANKED: &str = "tool: currents: blanked";
@@ -162,6 +163,7 @@ pub const CLASSES: &[Class] = &[
             SHOWN_CHIPS[1],
             SHOWN_CHIPS[2],
             SHOWN_DIFFERENT,
+            SHOWN_LAST_PIXEL,
         ],
         table: Some(&SHOWN),
         make: make::two_snapshots,

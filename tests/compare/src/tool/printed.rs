@@ -184,6 +184,11 @@ pub fn of_colours(chip: u8, places: &[u8]) -> Vec<Line> {
     lines
 }
 
+/// Whether there is a last pixel that isn't black.
+pub fn has_last_pixel(chip: u8, places: &[u8]) -> bool {
+    chip == 1 && places[p1::LAST_RED..].iter().any(|&code| code != 0)
+}
+
 /// An entry's colour and, behind it, its other parts.
 fn entry_line(chip: u8, entry: usize, values: &[u8]) -> String {
     let mut line = format!("{} {}", entry_name(chip, entry), colour(values));

@@ -221,6 +221,11 @@ fn read_past_tick(random: &mut Random) -> Pair {
 /// paints, behind the write or before it; then a 07h read.
 fn tick_past_write(random: &mut Random) -> Pair {
     let mut places = places_at_07h(random);
+    // No plane blinks, and what is painted has a colour of its own.
+    places[p1::BLINK_MASK] = 0;
+    for place in [p1::HELD_RED, p1::HELD_GREEN, 3, 4, 5] {
+        places[place] = random.byte();
+    }
     let shown = tick([1, 1, 1, 1, 1, 0, 0, 1]);
     let painting = if random.one_in(2) {
         (places[p1::ADDRESS], places[p1::POSITION]) = (1, 2);
@@ -355,6 +360,38 @@ fn shows_half(answer: &[u8]) -> bool {
     answer[1] >> 4 != 0
 }
 
+/// The 07h reads one by one, each kept or not: which of `SHOWN` they showed, or what
+/// is wrong.
+fn shown_by_reads(
+    one: &Played,
+    two: &Played,
+    painting_kept: bool,
+    reads_kept: &[bool],
+) -> Result<Vec<&'static str>, String> {
+    if one.reads.len() != two.reads.len() {
+        return Err("not as many 07h reads in both logs".into());
+    }
+    let mut shown = Vec::new();
+    for ((one, two), &read_kept) in one.reads.iter().zip(&two.reads).zip(reads_kept) {
+        if without_half(one) != without_half(two) {
+            return Err("a 07h read differs in more than a half of a code".into());
+        }
+        match (one == two, painting_kept, read_kept) {
+            (false, true, true) => {
+                let what = "a 07h read is answered differently although painting and it are kept";
+                return Err(what.into());
+            }
+            (false, true, false) => shown.push(READ_DIFFERS),
+            (false, false, true) => shown.push(READ_SEES_PAINTING),
+            (true, true, true) if shows_half(one) => shown.push(READ_COMPARED),
+            _ => {}
+        }
+    }
+    shown.sort_unstable();
+    shown.dedup();
+    Ok(shown)
+}
+
 impl Pair {
     pub fn case(&self, events: &[Event]) -> Case {
         Case {
@@ -425,7 +462,7 @@ impl Pair {
         }
         let reads_kept = of_one.before_reads.iter().zip(&of_two.before_reads);
         let reads_kept: Vec<bool> = reads_kept.map(|(one, two)| one == two).collect();
-        let mut shown = self.shown_by_reads([&one, &two], painting_kept, &reads_kept)?;
+        let mut shown = shown_by_reads(&one, &two, painting_kept, &reads_kept)?;
         let witnessed = [
             (painting_kept, TICKS_COMPARED),
             (ticks_differ, TICK_DIFFERS),
@@ -437,39 +474,6 @@ impl Pair {
             ),
         ];
         shown.extend(witnessed.iter().filter(|(seen, _)| *seen).map(|(_, s)| s));
-        Ok(shown)
-    }
-
-    /// The 07h reads one by one: what they showed, or what is wrong.
-    fn shown_by_reads(
-        &self,
-        played: [&Played; 2],
-        painting_kept: bool,
-        reads_kept: &[bool],
-    ) -> Result<Vec<&'static str>, String> {
-        let [one, two] = played.map(|played| &played.reads);
-        if one.len() != two.len() {
-            return Err("not as many 07h reads in both logs".into());
-        }
-        let mut shown = Vec::new();
-        for ((one, two), &read_kept) in one.iter().zip(two).zip(reads_kept) {
-            if without_half(one) != without_half(two) {
-                return Err("a 07h read differs in more than a half of a code".into());
-            }
-            match (one == two, painting_kept, read_kept) {
-                (false, true, true) => {
-                    let what =
-                        "a 07h read is answered differently although painting and it are kept";
-                    return Err(what.into());
-                }
-                (false, true, false) => shown.push(READ_DIFFERS),
-                (false, false, true) => shown.push(READ_SEES_PAINTING),
-                (true, true, true) if shows_half(one) => shown.push(READ_COMPARED),
-                _ => {}
-            }
-        }
-        shown.sort_unstable();
-        shown.dedup();
         Ok(shown)
     }
 

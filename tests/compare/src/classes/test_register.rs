@@ -43,12 +43,8 @@ fn accesses(random: &mut Random, count: usize) -> Vec<Event> {
             3..=5 => vec![write(c::CONTROL, test_byte(random)), read(c::CONTROL)],
             6 => painted_colour(random),
             7 => {
-                let (address, byte) = random.pick(&[(4, 0xFF), (4, 0x0F), (5, 0x01), (6, 0)]);
-                let byte = if address == 6 {
-                    random.pick(&COMMANDS)
-                } else {
-                    byte
-                };
+                let command = random.pick(&COMMANDS);
+                let (address, byte) = random.pick(&[(4, 0xFF), (4, 0x0F), (5, 1), (6, command)]);
                 vec![write(c::ADDRESS, address), write(c::CONTROL, byte)]
             }
             _ => vec![random.access_on(1)],
@@ -98,7 +94,7 @@ pub fn no_last_pixel(random: &mut Random) -> Case {
     };
     places[p1::OLDER_COUNT..].fill(0);
     let mut events = vec![read(c::CONTROL), save(), read(c::CONTROL)];
-    events.extend(diagnostics(random, 9));
+    events.extend(diagnostics(random, 18));
     let snapshot = snapshot_bytes(1, &nonzero(&places));
     Case::exact(snapshot, log_bytes(1, &events), random)
 }

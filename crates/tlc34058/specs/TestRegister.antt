@@ -9,14 +9,14 @@ use Rattle.tlc34058.specs.State.{Codes}
 abbrev pub half : ℕ → ℕ → ℕ
 half test code = cond (bit 3 test) (code % 16) (code / 16)
 
--- half of the code that bit 0 (red), bit 1 (green) or bit 2 (blue) selects; 0 unless exactly one of them is set
+-- the code that bit 0 selects (red), bit 1 (green) or bit 2 (blue); 0, whose halves are 0, unless exactly one of them is set
 unfoldable pub dacInput : ℕ → Codes → ℕ
 dacInput test last =
-    cond (eqb (test % 8) 1) (half test (last .red))
-    (cond (eqb (test % 8) 2) (half test (last .green))
-    (cond (eqb (test % 8) 4) (half test (last .blue))
+    cond (eqb (test % 8) 1) (last .red)
+    (cond (eqb (test % 8) 2) (last .green)
+    (cond (eqb (test % 8) 4) (last .blue)
     0))
 
--- the low four bits of the byte written and, in bits 4 to 7, that half
+-- the low four bits of the byte written and, in bits 4 to 7, half of that code
 unfoldable pub testRead : ℕ → Codes → ℕ
-testRead test last = test % 16 + 16 * dacInput test last
+testRead test last = test % 16 + 16 * half test (dacInput test last)

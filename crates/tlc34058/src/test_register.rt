@@ -15,18 +15,18 @@ fn half(test: u8, code: u8) -> u8
     code / 16
 }
 
-// Half of the code that is selected; 0 unless exactly one of bits 0 to 2 is set.
+// The code that is selected; 0 unless exactly one of bits 0 to 2 is set.
 fn dac_input(test: u8, last: Codes) -> u8
-    ensures { λ r. ⌜ (r ≡ dacInput test (codesOf last)) × (r ≤ 15) ⌝ }
+    ensures { λ r. ⌜ r ≡ dacInput test (codesOf last) ⌝ }
 {
     if test % 8 == 1 {
-        return half(test, last.red);
+        return last.red;
     }
     if test % 8 == 2 {
-        return half(test, last.green);
+        return last.green;
     }
     if test % 8 == 4 {
-        return half(test, last.blue);
+        return last.blue;
     }
     0
 }
@@ -35,5 +35,5 @@ fn dac_input(test: u8, last: Codes) -> u8
 pub fn read(test: u8, last: Codes) -> u8
     ensures { λ r. ⌜ r ≡ testRead test (codesOf last) ⌝ }
 {
-    test % 16 + 16 * dac_input(test, last)
+    test % 16 + 16 * half(test, dac_input(test, last))
 }

@@ -71,7 +71,7 @@ same-length-3 : tie.Need-same-length-3
 same-length-3 c = search needs
 
 same-length-4 : tie.Need-same-length-4
-same-length-4 c = search needs
+same-length-4 c = c .before .before .part2 .given ∙ c .before .before .before .before .before .before .before .before .before .before .before .before .before .part .given
 
 returns-3 : tie.Need-returns-3
 returns-3 c =

@@ -21,7 +21,7 @@ export LIBPALETTE REPLAY CALLS TOOL CC
 unexport CARGO_BUILD_TARGET
 
 .PHONY: run help test prove lib replay calls tool examples compare-build compare test-examples time fuzz test-c test-tool test-readme test-trace seeded bench install fmt clean
-# rt uses every core by itself, and two of them at once would share target/.
+# rt uses every core by itself, and two of them at once would wait for each other's crates.
 .NOTPARALLEL:
 
 # The sample log, as the printing program prints it and as the tool shows it.
@@ -39,24 +39,22 @@ test: ## the whole gate; scripts/test SUITE.. runs suites by themselves
 	@scripts/test
 
 prove: ## prove the crates that have changed
-	rt check
+	rt all check
 
 # The prover says hundreds of lines: they go to target/NAME.say, and are shown only if it refuses something.
 quietly = @mkdir -p target && echo "$(1), what the prover says in target/$(2).say" && { $(3) >target/$(2).say 2>&1 || { cat target/$(2).say; false; }; }
-# A program whose stamp is there isn't built again by rt, nor its time set.
-program = { { test -f $@ || rm -f target/stamp/$(@F); } && rt check $(@F) && test -f $@ && touch $@; }
 
 lib: $(LIBPALETTE) ## prove and build the static library for C
 target/lib/libpalette.a: $(CRATES) scripts/library
 	$(call quietly,proving and building the library,lib,scripts/library)
 
 replay: $(REPLAY) ## prove and build the printing program
-target/bin/replay: $(CRATES)
-	$(call quietly,proving and building the printing program,replay,$(program))
+target/bin/replay: $(CRATES) scripts/program
+	$(call quietly,proving and building the printing program,replay,scripts/program replay)
 
 calls: $(CALLS) ## prove and build the program that plays single calls
-target/bin/calls: $(CRATES)
-	$(call quietly,proving and building the program of single calls,calls,$(program))
+target/bin/calls: $(CRATES) scripts/program
+	$(call quietly,proving and building the program of single calls,calls,scripts/program calls)
 
 tool: $(TOOL) ## build the palette tool
 target/tool/palette: $(wildcard tool/*.c tool/*.h) include/palette.h $(LIBPALETTE)
@@ -131,7 +129,7 @@ install: $(LIBPALETTE) $(REPLAY) $(TOOL) ## header, library, programs, manual pa
 	install -m 644 target/palette.pc $(DESTDIR)$(PREFIX)/lib/pkgconfig/palette.pc
 
 fmt: ## format the crates
-	rt fmt
+	for crate in crates/*; do (cd $$crate && rt fmt) || exit; done
 
 clean: ## remove all that was built
-	rm -rf target tests/target
+	rm -rf target tests/target crates/*/out

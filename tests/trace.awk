@@ -130,9 +130,10 @@ function take_lists(    rest, phrase, at, parts, n, i) {
     }
 }
 
-# "structs A and B in crates/..": the path stays.
+# "structs A and B in crates/..", and so for enums, traits, constants and statics: the
+# path stays.
 function take_structs(    phrase, at, file, parts, n, i) {
-    while (match(line, "structs? " part "(" more part ")* in crates/[A-Za-z0-9_./-]*[A-Za-z0-9_]")) {
+    while (match(line, "(struct|enum|trait|constant|static)s? " part "(" more part ")* in crates/[A-Za-z0-9_./-]*[A-Za-z0-9_]")) {
         phrase = substr(line, RSTART, RLENGTH)
         at = index(phrase, " in ")
         line = substr(line, 1, RSTART - 1) substr(line, RSTART + at + 3)

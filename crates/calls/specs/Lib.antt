@@ -1,0 +1,2 @@
+-- What a record of the program stands for.
+pub mod Record

@@ -1,0 +1,2 @@
+-- A palette chip's rules, for any chip.
+pub mod Rules

@@ -1,0 +1,3 @@
+-- The refusals, and the number of each.
+pub mod Refusal
+pub mod Returned
